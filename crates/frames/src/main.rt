@@ -1,0 +1,4 @@
+// Frame words from standard input, a line of plain words for each.
+mod scan;
+
+fn main() {}
