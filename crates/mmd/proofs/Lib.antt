@@ -1,0 +1,4 @@
+pub mod Counters
+pub mod Kept
+pub mod Latches
+pub mod Words
