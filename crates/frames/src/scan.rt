@@ -2,6 +2,7 @@
 ghost use mathlib.Core.Path.{_≡_};
 ghost use Prim.Native.Nat.{_<_};
 ghost use Rattle.frames.specs.Scans.{glyph-of, next, line-of};
+ghost use Rattle.frames.specs.Lines.{Holds-what-was-scanned};
 
 // What a line holds.
 #[derive(Clone, Copy, PartialEq, Eq, Debug)]
@@ -53,7 +54,8 @@ impl Scan {
 
     // What the line holds, if it ends here.
     pub fn line(self) -> Line
-        ensures { λ r. ⌜ r ≡ line-of self ⌝ }
+        ensures value { λ r. ⌜ r ≡ line-of self ⌝ }
+        ensures holds { λ r. ⌜ Holds-what-was-scanned self r ⌝ }
     {
         match self {
             Scan::Blank => Line::Blank,
