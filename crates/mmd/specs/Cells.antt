@@ -20,6 +20,7 @@ pub data Cell : Type 0 where
   -- RO MW NR: a bit of a long counter's high or low half, by the counter and the place in the half
   high-half : ℕ → ℕ → Cell
   low-half : ℕ → ℕ → Cell
+  deriving IsSet as Cell-set
 
 -- where a counter stands in the registers
 pub data Field : Type 0 where
