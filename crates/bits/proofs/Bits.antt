@@ -138,3 +138,24 @@ bit-gathered f (suc w) k h =
     (λ (below : k < w). let ih = bit-gathered f w k below in grind (arith, tells))
     (λ (here : w ≤ k). let e : k ≡ w = omega arith in let fe : f k ≡ f w = ap f e in let none = above here in grind (arith, tells))
     (cases-lt k w)
+
+-- sixteen ones
+pub bit-ones : (k : ℕ) → bit 65535 k ≡ ltb k 16
+unfolding gathered
+bit-ones k =
+    ⊎-elim
+    (λ (h : k < 16). let e : bit (gathered (λ _. true) 16) k ≡ true = bit-gathered (λ _. true) 16 k h in e ∙ grind (arith, tells))
+    (λ (h : 16 ≤ k). let e = bit-above 65535 16 k (omega arith) h in grind (arith, tells))
+    (cases-lt k 16)
+
+pub bit-sixteen : (one : Bool) (k : ℕ) → k < 16 → bit (cond one 65535 0) k ≡ one
+bit-sixteen true k h = bit-ones k ∙ grind (arith, tells)
+bit-sixteen false k h = bit-zero k
+
+-- the low sixteen bits of a number, and those above
+pub bit-low : (a k : ℕ) → k < 16 → bit (a % 65536) k ≡ bit a k
+bit-low a k h =
+    ap (λ n. bit n k) (sym (gathered-own a 16)) ∙ bit-gathered (bit a) 16 k h
+
+pub bit-high : (a k : ℕ) → bit (a / 65536) k ≡ bit a (16 + k)
+bit-high a k = bit-shr a 16 k

@@ -1,0 +1,5 @@
+pub mod Changes
+pub mod Entries
+pub mod Rows
+pub mod Slots
+pub mod Spans

@@ -1,0 +1,61 @@
+// A row of the table with the state of its bits.
+ghost use mathlib.Core.Path.{_≡_};
+ghost use mathlib.Core.Bool.{true};
+ghost use Rattle.table_mmd.specs.Entries.{Has-bits, Shows-value, row-shows, shown-at};
+ghost use Rattle.table_mmd.specs.Rows.{content-of, span-fits};
+use crate::row::Content;
+use crate::row::Row;
+use crate::slot::Slot;
+use crate::slot::counter_of;
+use crate::span::put;
+use bits::high_half;
+use bits::is_one;
+use bits::low_half;
+use bits::sixteen;
+
+#[derive(Clone, Copy)]
+pub struct Entry {
+    pub row: Row,
+    // the bits of the span, from its lowest at place 0; places past the span mean nothing
+    pub state: u16,
+}
+
+impl Entry {
+    pub fn with_state(self, state: u16) -> Entry
+        ensures { λ r. ⌜ r ≡ record { row = self .row; state = state } ⌝ }
+    {
+        Entry {
+            row: self.row,
+            state,
+        }
+    }
+
+    // What the row shows, from its lowest bit at place 0.
+    fn value(&self, lines: u32, slots: &[Slot]) -> u16
+        ensures { λ r. ⌜ Shows-value (shown-at lines (now (slots .entry)) (content-of (now (self .entry) .row)) (now (self .entry) .state)) r ⌝ }
+    {
+        match self.row.content() {
+            Content::Fixed(value) => value,
+            Content::Follower(line) => sixteen(is_one(lines, line)),
+            Content::LatchingHigh(_)
+            | Content::LatchingLow(_)
+            | Content::Setting(_)
+            | Content::SelfClearing => self.state,
+            Content::ShortCounter(number) => low_half(counter_of(slots, number).value),
+            Content::HighHalf(number) => high_half(counter_of(slots, number).value),
+            Content::LowHalf(number) => low_half(counter_of(slots, number).held),
+            Content::Unknown => 0,
+        }
+    }
+
+    // What the row shows of a register, in its span, and zeros beside it; zero for another register.
+    pub fn shown(&self, register: u16, lines: u32, slots: &[Slot]) -> u16
+        requires { ⌜ span-fits (now self .row) ≡ true ⌝ }
+        ensures { λ r. ⌜ Has-bits (row-shows lines (now (slots .entry)) register (now (self .entry))) r ⌝ }
+    {
+        if self.row.register != register {
+            return 0;
+        }
+        put(&self.row, self.value(lines, slots))
+    }
+}
