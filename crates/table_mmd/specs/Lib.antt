@@ -3,3 +3,4 @@ pub mod Entries
 pub mod Rows
 pub mod Slots
 pub mod Spans
+pub mod Tables

@@ -1,0 +1,41 @@
+-- What a table of rows, lines and counters means.
+use Prim.Native.Nat.{ℕ, _-_}
+use mathlib.Core.Bool.{Bool, true, false, cond, _&&_, _||_}
+use mathlib.Core.List.{List, [], _∷_}
+use lib.Dec.{eqb, ltb}
+use lib.ListN.{getD}
+use Rattle.bits.specs.Bits.{bit}
+use Rattle.mmd.specs.Meaning.{Layout, Meaning}
+use Rattle.table_mmd.specs.Entries.{rows-of, stored-at}
+use Rattle.table_mmd.specs.Rows.{cell-of, content-of, covers}
+use Rattle.table_mmd.specs.Slots.{empty-slot, field-of}
+use Rattle.table_mmd.specs.declared.entry.Entry.{Entry}
+use Rattle.table_mmd.specs.declared.row.Row.{Row}
+use Rattle.table_mmd.specs.declared.slot.Slot.{Slot}
+
+-- the state at a register and bit: that of the first row that covers it
+abbrev pub stored-of : List Entry → ℕ → ℕ → Bool
+stored-of [] r b = false
+stored-of (e ∷ es) r b = cond (covers (e .row) r b) (stored-at (content-of (e .row)) (e .state) (b - e .row .low)) (stored-of es r b)
+
+unfoldable pub table-meaning : List Entry → ℕ → List Slot → Meaning
+table-meaning es lines slots =
+    record {
+      layout = record { cell = cell-of (rows-of es); field = λ k. field-of (getD slots k empty-slot .places) };
+      line = bit lines;
+      stored = stored-of es;
+      counter = λ k. getD slots k empty-slot .counter .value;
+      held = λ k. getD slots k empty-slot .counter .held;
+    }
+
+-- rows rise: by register, and within one register by their spans
+abbrev pub in-order : Row → Row → Bool
+in-order a b = ltb (a .register) (b .register) || (eqb (a .register) (b .register) && ltb (a .high) (b .low))
+
+abbrev pub rising-after : Row → List Row → Bool
+rising-after a [] = true
+rising-after a (b ∷ rest) = in-order a b && rising-after b rest
+
+abbrev pub rising : List Row → Bool
+rising [] = true
+rising (row ∷ rest) = rising-after row rest
