@@ -1,4 +1,5 @@
 pub mod Counters
+pub mod Equal
 pub mod Kept
 pub mod Latches
 pub mod Unique

@@ -1,0 +1,3 @@
+mod After
+mod Kept
+mod Shown
