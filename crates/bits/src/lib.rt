@@ -4,20 +4,18 @@ ghost use mathlib.Core.Path.{_≡_};
 ghost use Prim.Native.Nat.{_/_, _%_};
 ghost use Rattle.bits.specs.Bits.{bit, Sets-bit};
 
-const WIDTH: u16 = 32;
-
 // Whether a bit of a word is one; past bit 31 there is none.
 pub fn is_one(word: u32, place: u16) -> bool
     ensures { λ r. ⌜ r ≡ bit word place ⌝ }
 {
-    place < WIDTH && (word >> place) & 1 == 1
+    place < 32 && (word >> place) & 1 == 1
 }
 
 // The word with one bit set to `one`; past bit 31 there is none to set.
-pub fn with_bit(word: u32, place: u16, one: bool) -> u32
+pub fn with_bit(word: u32, place: u8, one: bool) -> u32
     ensures { λ r. ⌜ Sets-bit word place one r ⌝ }
 {
-    if place >= WIDTH {
+    if place >= 32 {
         return word;
     }
     let flag = 1 << place;

@@ -1,14 +1,16 @@
 // What each call of the FEC registers answers and changes.
 ghost use mathlib.Core.Bool.{cond, _&&_, _||_};
 ghost use mathlib.Core.Path.{_≡_};
-ghost use Prim.Native.Nat.{_+_, _/_, _%_};
+ghost use Prim.Native.Nat.{_+_};
 ghost use lib.Dec.{eqb};
 ghost use Rattle.bits.specs.Bits.{bit};
 ghost use Rattle.fec_mmd.specs.Device.{meaning-of};
 ghost use Rattle.fec_mmd.specs.Layout.{fec-layout};
 ghost use Rattle.mmd.specs.Meaning.{new-meaning, read-word};
 use crate::fec::FecMmd;
+use bits::high_half;
 use bits::is_one;
+use bits::low_half;
 use bits::with_bit;
 use mmd::counter::Counter;
 use mmd::mmd::Mmd;
@@ -36,7 +38,7 @@ const BER_CONTROL: u16 = 80;
 // latched high BER, high BER
 const BER_STATUS: u16 = 81;
 
-const ERROR_INDICATION_BIT: u8 = 1;
+const ERROR_INDICATION_BIT: u16 = 1;
 
 // threshold 16, timer 25
 const BER_CONTROL_DEFAULT: u16 = 0x1019;
@@ -83,7 +85,7 @@ impl FecMmd {
     fn high_ber(&self) -> bool
         ensures { λ r. ⌜ r ≡ bit (now (self .entry) .lines) 0 ⌝ }
     {
-        is_one(self.lines, HIGH_BER_LINE)
+        is_one(self.lines, u16::from(HIGH_BER_LINE))
     }
 
     // Latched high BER after a read of the register.
@@ -119,18 +121,6 @@ fn two_bits(one: bool, zero: bool) -> u16
     ensures { λ r. ⌜ r ≡ cond one 2 0 + cond zero 1 0 ⌝ }
 {
     u16::from(one) * 2 + u16::from(zero)
-}
-
-fn low_half(count: u32) -> u16
-    ensures { λ r. ⌜ r ≡ count % 65536 ⌝ }
-{
-    (count % 0x1_0000) as u16
-}
-
-fn high_half(count: u32) -> u16
-    ensures { λ r. ⌜ r ≡ count / 65536 ⌝ }
-{
-    (count / 0x1_0000) as u16
 }
 
 pub impl Mmd for FecMmd as FecMmdMmd {

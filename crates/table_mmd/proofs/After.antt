@@ -27,13 +27,13 @@ counted-at : (slots : List Slot) (k amount : ℕ) → k < length slots → (j : 
     → getD (set slots k (slot-counted amount (getD slots k empty-slot))) j empty-slot ≡ cond (eqb j k) (slot-counted amount (getD slots j empty-slot)) (getD slots j empty-slot)
 counted-at slots k amount within j =
     ⊎-elim
-      (λ (e : j ≡ k).
-        ap (λ n. getD (set slots k (slot-counted amount (getD slots k empty-slot))) n empty-slot) e
-        ∙ getD-set-same slots k _ empty-slot within
-        ∙ ap (λ n. slot-counted amount (getD slots n empty-slot)) (sym e)
-        ∙ sym (cond-true (eqb j k) _ _ (eq-eqb j k e)))
-      (λ ne. getD-set-other slots k j _ empty-slot ne ∙ sym (cond-false (eqb j k) _ _ (ne-eqb j k ne)))
-      (cases-eq j k)
+    (λ (e : j ≡ k).
+    ap (λ n. getD (set slots k (slot-counted amount (getD slots k empty-slot))) n empty-slot) e
+    ∙ getD-set-same slots k _ empty-slot within
+    ∙ ap (λ n. slot-counted amount (getD slots n empty-slot)) (sym e)
+    ∙ sym (cond-true (eqb j k) _ _ (eq-eqb j k e)))
+    (λ ne. getD-set-other slots k j _ empty-slot ne ∙ sym (cond-false (eqb j k) _ _ (ne-eqb j k ne)))
+    (cases-eq j k)
 
 places-stay : (amount : ℕ) (c : Bool) (s : Slot) → cond c (slot-counted amount s) s .places ≡ s .places
 places-stay amount true s = refl

@@ -42,10 +42,10 @@ relatch-acts lines r =
     record {
       same-row = λ e. grind (arith, tells);
       at-place = λ e q b fits here.
-        let within = span-within (e .row) fits in
-        let small : b - e .row .low < 16 = grind (arith, tells) in
-        let place = relatched-at lines (content-of (e .row)) (e .state) (b - e .row .low) small in
-        grind (arith, tells);
+          let within = span-within (e .row) fits in
+          let small : b - e .row .low < 16 = grind (arith, tells) in
+          let place = relatched-at lines (content-of (e .row)) (e .state) (b - e .row .low) small in
+          grind (arith, tells);
       none-at-blank = λ q b. grind (arith, tells);
     }
 
@@ -68,10 +68,10 @@ write-acts r word =
     record {
       same-row = λ e. grind (arith, tells);
       at-place = λ e q b fits here.
-        let over : e .row .low ≤ b = grind (arith, tells) in
-        let there : bit (word / 2 ^ e .row .low) (b - e .row .low) ≡ bit word b = bit-shr word (e .row .low) (b - e .row .low) ∙ ap (bit word) (omega arith) in
-        let place = written-at (word / 2 ^ e .row .low) (content-of (e .row)) (e .state) (b - e .row .low) in
-        grind (arith, tells);
+          let over : e .row .low ≤ b = grind (arith, tells) in
+          let there : bit (word / 2 ^ e .row .low) (b - e .row .low) ≡ bit word b = bit-shr word (e .row .low) (b - e .row .low) ∙ ap (bit word) (omega arith) in
+          let place = written-at (word / 2 ^ e .row .low) (content-of (e .row)) (e .state) (b - e .row .low) in
+          grind (arith, tells);
       none-at-blank = λ q b. grind (arith, tells);
     }
 
@@ -94,9 +94,9 @@ line-acts n up =
     record {
       same-row = λ e. refl;
       at-place = λ e q b fits here.
-        let within = span-within (e .row) fits in
-        let small : b - e .row .low < 16 = grind (arith, tells) in
-        moved-at n up (content-of (e .row)) (e .state) (b - e .row .low) small;
+          let within = span-within (e .row) fits in
+          let small : b - e .row .low < 16 = grind (arith, tells) in
+          moved-at n up (content-of (e .row)) (e .state) (b - e .row .low) small;
       none-at-blank = λ q b. refl;
     }
 
@@ -132,9 +132,9 @@ finish-acts r b =
     record {
       same-row = λ e. grind (arith, tells);
       at-place = λ e q c fits here.
-        let place = finished-at (content-of (e .row)) (e .state) (c - e .row .low) in
-        let single : is-self-clearing (cell-at (content-of (e .row)) (c - e .row .low)) ≡ true → e .row .low ≡ e .row .high = λ clearing. span-one-bit (e .row) fits (self-clearing-one-bit (content-of (e .row)) (c - e .row .low) clearing) in
-        grind (arith, tells);
+          let place = finished-at (content-of (e .row)) (e .state) (c - e .row .low) in
+          let single : is-self-clearing (cell-at (content-of (e .row)) (c - e .row .low)) ≡ true → e .row .low ≡ e .row .high = λ clearing. span-one-bit (e .row) fits (self-clearing-one-bit (content-of (e .row)) (c - e .row .low) clearing) in
+          grind (arith, tells);
       none-at-blank = λ q c. grind (arith, tells);
     }
 
@@ -157,8 +157,8 @@ reset-acts lines =
     record {
       same-row = λ e. refl;
       at-place = λ e q b fits here.
-        let within = span-within (e .row) fits in
-        let small : b - e .row .low < 16 = grind (arith, tells) in
-        reset-at lines (content-of (e .row)) (b - e .row .low) small;
+          let within = span-within (e .row) fits in
+          let small : b - e .row .low < 16 = grind (arith, tells) in
+          reset-at lines (content-of (e .row)) (b - e .row .low) small;
       none-at-blank = λ q b. refl;
     }

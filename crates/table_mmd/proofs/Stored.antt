@@ -39,5 +39,5 @@ pub stored-after : {ok : Entry → Type 0} {f : Entry → Entry} {g : ℕ → �
 stored-after acts [] r b fit = sym (acts .none-at-blank r b)
 stored-after {f = f} {g = g} acts (e ∷ es) r b fit =
     by-cover (covers (e .row) r b) (covers (f e .row) r b) (g r b) _ _ _ _ _ _ (ap (λ row. covers row r b) (acts .same-row e))
-      (λ here. ap (λ row. stored-at (content-of row) (f e .state) (b - row .low)) (acts .same-row e) ∙ acts .at-place e r b (fit .0) here)
-      (λ beside. stored-after acts es r b (fit .1))
+    (λ here. ap (λ row. stored-at (content-of row) (f e .state) (b - row .low)) (acts .same-row e) ∙ acts .at-place e r b (fit .0) here)
+    (λ beside. stored-after acts es r b (fit .1))
