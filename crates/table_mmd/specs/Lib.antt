@@ -1,5 +1,8 @@
 pub mod Changes
+pub mod Checks
 pub mod Entries
+pub mod Faults
+pub mod Layouts
 pub mod Rows
 pub mod Slots
 pub mod Spans
