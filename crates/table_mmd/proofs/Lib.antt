@@ -2,7 +2,10 @@ pub mod After
 pub mod Counters
 pub mod Disjoint
 pub mod Formed
+pub mod Laid
 pub mod Places
+pub mod Shown
 pub mod Spans
 pub mod Stored
+pub mod Walked
 pub mod Walks

@@ -58,9 +58,12 @@ any-shows lines slots r (e ∷ es) b = row-shows lines slots r e b || any-shows 
 abbrev pub Has-bits : (ℕ → Bool) → ℕ → Type 0
 Has-bits f w = (b : ℕ) → bit w b ≡ f b
 
-abbrev pub all-fit : List Entry → Bool
-all-fit [] = true
-all-fit (e ∷ es) = span-fits (e .row) && all-fit es
-
 abbrev pub rows-of : List Entry → List Row
 rows-of es = map (λ e. e .row) es
+
+abbrev pub rows-fit : List Row → Bool
+rows-fit [] = true
+rows-fit (row ∷ rows) = span-fits row && rows-fit rows
+
+abbrev pub all-fit : List Entry → Bool
+all-fit es = rows-fit (rows-of es)

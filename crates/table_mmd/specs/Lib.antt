@@ -1,5 +1,6 @@
 pub mod Changes
 pub mod Checks
+pub mod Device
 pub mod Entries
 pub mod Faults
 pub mod Layouts

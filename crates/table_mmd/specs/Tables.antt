@@ -1,14 +1,16 @@
 -- What a table of rows, lines and counters means.
 use Prim.Native.Nat.{ℕ, _-_}
+use mathlib.Core.Path.{_≡_}
 use mathlib.Core.Bool.{Bool, true, false, cond, _&&_, _||_}
 use mathlib.Core.List.{List, [], _∷_}
 use lib.Dec.{eqb, ltb}
-use lib.ListN.{getD}
+use lib.ListN.{getD, length}
 use Rattle.bits.specs.Bits.{bit}
+use Rattle.mmd.specs.Invariant.{Keeps}
 use Rattle.mmd.specs.Meaning.{Layout, Meaning}
-use Rattle.table_mmd.specs.Entries.{rows-of, stored-at}
+use Rattle.table_mmd.specs.Entries.{all-fit, rows-of, stored-at}
 use Rattle.table_mmd.specs.Rows.{cell-of, content-of, covers}
-use Rattle.table_mmd.specs.Slots.{empty-slot, field-of}
+use Rattle.table_mmd.specs.Slots.{all-narrow, empty-slot, field-of}
 use Rattle.table_mmd.specs.declared.entry.Entry.{Entry}
 use Rattle.table_mmd.specs.declared.row.Row.{Row}
 use Rattle.table_mmd.specs.declared.slot.Slot.{Slot}
@@ -39,3 +41,11 @@ rising-after a (b ∷ rest) = in-order a b && rising-after b rest
 abbrev pub rising : List Row → Bool
 rising [] = true
 rising (row ∷ rest) = rising-after row rest
+
+-- what a table keeps at all times
+pub record Laid (es : List Entry) (lines : ℕ) (slots : List Slot) : Type 0 where
+  pub fits : all-fit es ≡ true
+  pub rises : rising (rows-of es) ≡ true
+  pub narrow : all-narrow slots ≡ true
+  pub sixteen-slots : length slots ≡ 16
+  pub keeps : Keeps (table-meaning es lines slots)

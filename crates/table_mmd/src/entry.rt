@@ -1,8 +1,10 @@
 // A row of the table with the state of its bits.
 ghost use mathlib.Core.Path.{_≡_};
 ghost use mathlib.Core.Bool.{true};
-ghost use Rattle.table_mmd.specs.Entries.{Has-bits, Shows-value, row-shows, shown-at};
-ghost use Rattle.table_mmd.specs.Rows.{content-of, span-fits};
+ghost use Prim.Native.Nat.{ℕ};
+ghost use Rattle.mmd.specs.Cells.{is-self-clearing};
+ghost use Rattle.table_mmd.specs.Entries.{Has-bits, Shows-value, row-shows, rows-of, shown-at};
+ghost use Rattle.table_mmd.specs.Rows.{cell-at, cell-of, content-of, span-fits};
 use crate::row::Content;
 use crate::row::Row;
 use crate::slot::Slot;
@@ -57,5 +59,26 @@ impl Entry {
             return 0;
         }
         put(&self.row, self.value(lines, slots))
+    }
+}
+
+// Whether the bit is self-clearing.
+pub fn is_self_clearing(entries: &[Entry], register: u16, bit: u8) -> bool
+    ensures { λ r. ⌜ r ≡ is-self-clearing (cell-of (rows-of (now (entries .entry))) register bit) ⌝ }
+{
+    for entry in entries {
+        if entry.row.covers(register, bit) {
+            return clears_itself(entry.row.content());
+        }
+    }
+    false
+}
+
+fn clears_itself(content: Content) -> bool
+    ensures { λ r. ⌜ ((p : ℕ) → r ≡ is-self-clearing (cell-at content p)) ⌝ }
+{
+    match content {
+        Content::SelfClearing => true,
+        _ => false,
     }
 }

@@ -1,8 +1,10 @@
 // An MMD that is filled from rows, and keeps the register meaning for every layout that they can give.
+mod calls;
 mod change;
 mod entry;
 pub mod fault;
 pub mod row;
 pub mod slot;
 mod span;
+pub mod table;
 mod walk;
