@@ -2,6 +2,7 @@ pub mod After
 pub mod Counters
 pub mod Disjoint
 pub mod Formed
+pub mod Passing
 pub mod Places
 pub mod Spans
 pub mod Stored
