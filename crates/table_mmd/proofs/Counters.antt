@@ -1,22 +1,15 @@
 -- Rows whose counters are not taken twice.
-use mathlib.Core.Path.{_≡_, refl}
-use mathlib.Core.Bool.{Bool, true, false, _&&_, _||_}
-use mathlib.Core.List.{List, [], _∷_, _++_}
+use mathlib.Core.Path.{_≡_}
+use mathlib.Core.Bool.{false}
+use mathlib.Core.List.{List, [], _∷_}
 use Prim.Native.Nat.{ℕ}
 use native.Mathlib.Omega.{arith}
-use lib.Dec.{eqb}
-use Rattle.std.specs.Options.{isSome}
-use Rattle.std.specs.declared.option.Option.{Option}
-use Rattle.std.specs.declared.option.Option.the-variants.{Some, None}
 use Rattle.std.specs.shelf.Lists.{All}
 use Rattle.std.proofs.shelf.Elements.{all-weaker}
 use Rattle.std.proofs.shelf.Ways.{tells}
-use Rattle.table_mmd.specs.Checks.{joined, or-else, place-as, place-in, places-of, taken-as}
-use Rattle.table_mmd.specs.Layouts.{Halves-at-most, No-counter-twice, Pairwise}
+use Rattle.table_mmd.specs.Checks.{joined, place-in, places-of, taken-as}
+use Rattle.table_mmd.specs.Layouts.{Halves-at-most, No-counter-twice}
 use Rattle.table_mmd.specs.Rows.{content-of}
-use Rattle.table_mmd.specs.Slots.{nowhere}
-use Rattle.table_mmd.specs.declared.row.Content.{Content}
-use Rattle.table_mmd.specs.declared.row.Content.the-variants.{Fixed, Follower, LatchingHigh, LatchingLow, Setting, SelfClearing, ShortCounter, HighHalf, LowHalf, Unknown}
 use Rattle.table_mmd.specs.declared.row.Row.{Row}
 use Rattle.table_mmd.specs.declared.slot.Places.{Places}
 

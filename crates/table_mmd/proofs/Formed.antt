@@ -1,22 +1,21 @@
 -- Rows pass the tests exactly when they form a layout and rise.
-use mathlib.Core.Path.{_≡_, refl, sym, ap, _∙_}
-use mathlib.Core.Bool.{Bool, true, false, _&&_}
+use mathlib.Core.Path.{_≡_, refl, sym, _∙_}
+use mathlib.Core.Bool.{true, false, _&&_}
 use mathlib.Core.List.{List, [], _∷_, _++_, append-nil, append-assoc}
 use Prim.Native.Nat.{ℕ, _+_, _≤_}
 use native.Mathlib.Omega.{arith}
 use lib.ListN.{length}
 use Rattle.std.specs.Options.{isSome}
 use Rattle.std.specs.declared.option.Option.{Option}
-use Rattle.std.specs.declared.option.Option.the-variants.{Some, None}
+use Rattle.std.specs.declared.option.Option.the-variants.{None}
 use Rattle.std.specs.shelf.Lists.{All}
 use Rattle.std.proofs.shelf.Elements.{all-push, all-weaker}
 use Rattle.std.proofs.shelf.Tests.{and-parts}
 use Rattle.std.proofs.shelf.Ways.{tells}
-use Rattle.table_mmd.specs.Checks.{fault-of, first-fault, first-partnerless, follows, located, or-else, partnerless-as, place-in, places-of, row-fault, taken-as}
+use Rattle.table_mmd.specs.Checks.{fault-of, first-fault, first-partnerless, follows, located, or-else, places-of, row-fault, taken-as}
 use Rattle.table_mmd.specs.Layouts.{Forms-layout, No-counter-twice, Pairwise, Well-formed}
 use Rattle.table_mmd.specs.Rows.{content-of, span-fits}
-use Rattle.table_mmd.specs.Slots.{nowhere}
-use Rattle.table_mmd.specs.Tables.{in-order, rising, rising-after}
+use Rattle.table_mmd.specs.Tables.{rising, rising-after}
 use Rattle.table_mmd.specs.declared.fault.FaultAt.{FaultAt}
 use Rattle.table_mmd.specs.declared.fault.TableFault.{TableFault}
 use Rattle.table_mmd.specs.declared.row.Row.{Row}
@@ -124,7 +123,7 @@ passing-parts rows free = grind (arith, tells)
 nothing-passed : Passed []
 nothing-passed = record { well-formed = tt; rises = refl; no-counter-twice = tt }
 
-fits-from-well-formed : (rows : List Row) → All Well-formed rows → All (λ row. span-fits row ≡ true) rows
+pub fits-from-well-formed : (rows : List Row) → All Well-formed rows → All (λ row. span-fits row ≡ true) rows
 fits-from-well-formed = all-weaker Well-formed (λ row. span-fits row ≡ true) (λ row h. h .1)
 
 pub passing-forms : (rows : List Row) → fault-of rows ≡ None → Forms-layout rows × (rising rows ≡ true)

@@ -3,6 +3,7 @@ pub mod Counters
 pub mod Disjoint
 pub mod Formed
 pub mod Laid
+pub mod Passing
 pub mod Places
 pub mod Shown
 pub mod Spans
