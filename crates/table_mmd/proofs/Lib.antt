@@ -1,4 +1,5 @@
 pub mod After
+pub mod Checked
 pub mod Places
 pub mod Spans
 pub mod Stored

@@ -143,6 +143,10 @@ fault-of rows =
     cond (ltb 64 (length rows)) (Some (record { fault = TooManyRows; place = 64 }))
     (or-else (first-fault [] rows) (first-partnerless (places-of rows) 0 rows))
 
+-- where slots place the counters
+abbrev pub places-in : List Slot → ℕ → Places
+places-in slots k = getD slots k empty-slot .places
+
 -- the counters of a table that has just been filled
 abbrev pub Slots-of : List Row → List Slot → Type 0
 Slots-of rows slots = (length slots ≡ 16) × ((k : ℕ) → getD slots k empty-slot ≡ record { places = places-of rows k; counter = record { value = 0; held = 0 } })

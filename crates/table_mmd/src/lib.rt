@@ -1,5 +1,6 @@
 // An MMD that is filled from rows, and keeps the register meaning for every layout that they can give.
 mod change;
+mod check;
 mod entry;
 pub mod fault;
 pub mod row;
