@@ -26,8 +26,14 @@ pub struct Places {
 }
 
 impl Places {
+    pub const NOWHERE: Places = Places {
+        short: None,
+        high: None,
+        low: None,
+    };
+
     // The places of both; of one sort, the first.
-    fn joined(self, more: Places) -> Places
+    pub fn joined(self, more: Places) -> Places
         ensures { λ r. ⌜ r ≡ joined self more ⌝ }
     {
         Places {
@@ -49,11 +55,7 @@ const LONG_TOP: u32 = 0xffff_ffff;
 impl Slot {
     // A counter that no row names.
     pub const EMPTY: Slot = Slot {
-        places: Places {
-            short: None,
-            high: None,
-            low: None,
-        },
+        places: Places::NOWHERE,
         counter: Counter::ZERO,
     };
 
