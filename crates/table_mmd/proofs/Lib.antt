@@ -1,4 +1,5 @@
 pub mod After
+pub mod Checked
 pub mod Counters
 pub mod Disjoint
 pub mod Formed

@@ -12,6 +12,7 @@ use Rattle.bits.proofs.Bits.{bit-or}
 use Rattle.table_mmd.specs.Entries.{Has-bits, all-fit, any-shows, row-shows}
 use Rattle.table_mmd.specs.Rows.{span-fits}
 use Rattle.table_mmd.specs.declared.entry.Entry.{Entry}
+use Rattle.table_mmd.specs.declared.row.Row.{Row}
 use Rattle.table_mmd.specs.declared.slot.Slot.{Slot}
 
 -- the rows from place i on are as they were
@@ -31,9 +32,12 @@ fits-at [] i d fit within = absurd (omega arith)
 fits-at (e ∷ es) zero d fit within = and-parts (span-fits (e .row)) (all-fit es) fit .0
 fits-at (e ∷ es) (suc i) d fit within = fits-at es i d (and-parts (span-fits (e .row)) (all-fit es) fit .1) (omega arith)
 
--- the element that stands at no place, as a loop writes it
+-- the elements that stand at no place, as a loop writes them
+abbrev pub zero-row : Row
+zero-row = record { register = 0; high = 0; low = 0; kind = 0; number = 0 }
+
 abbrev pub zero-entry : Entry
-zero-entry = record { row = record { register = 0; high = 0; low = 0; kind = 0; number = 0 }; state = 0 }
+zero-entry = record { row = zero-row; state = 0 }
 
 -- one row more
 or-assoc : (a b c : Bool) → ((a || b) || c) ≡ (a || (b || c))

@@ -8,6 +8,8 @@ use lib.ListN.{getD, length}
 use Rattle.std.specs.Options.{isSome}
 use Rattle.std.specs.declared.option.Option.{Option}
 use Rattle.std.specs.declared.option.Option.the-variants.{Some, None}
+use Rattle.std.specs.declared.result.Result.{Result}
+use Rattle.std.specs.declared.result.Result.the-variants.{Ok, Err}
 use Rattle.mmd.specs.Meaning.{Layout}
 use Rattle.table_mmd.specs.Rows.{cell-of, content-of, span-fits}
 use Rattle.table_mmd.specs.Slots.{empty-slot, field-of, nowhere}
@@ -143,6 +145,27 @@ fault-of rows =
     cond (ltb 64 (length rows)) (Some (record { fault = TooManyRows; place = 64 }))
     (or-else (first-fault [] rows) (first-partnerless (places-of rows) 0 rows))
 
+-- where slots place the counters
+abbrev pub places-in : List Slot → ℕ → Places
+places-in slots k = getD slots k empty-slot .places
+
 -- the counters of a table that has just been filled
 abbrev pub Slots-of : List Row → List Slot → Type 0
 Slots-of rows slots = (length slots ≡ 16) × ((k : ℕ) → getD slots k empty-slot ≡ record { places = places-of rows k; counter = record { value = 0; held = 0 } })
+
+-- the counters with the places of one row more
+abbrev pub with-place : Slot → Places → Slot
+with-place s p = record { places = joined (s .places) p; counter = s .counter }
+
+abbrev pub Joins : Row → List Slot → List Slot → Type 0
+Joins row before after =
+    (length after ≡ length before) × ((k : ℕ) → getD after k empty-slot ≡ with-place (getD before k empty-slot) (place-in row k))
+
+-- what the check of rows one after another gives, and what the whole check gives
+abbrev pub Placed : List Row → Result (List Slot) FaultAt → Type 0
+Placed rows (Ok slots) = (first-fault [] rows ≡ None) × Slots-of rows slots
+Placed rows (Err f) = first-fault [] rows ≡ Some f
+
+abbrev pub Checked : List Row → Result (List Slot) FaultAt → Type 0
+Checked rows (Ok slots) = (fault-of rows ≡ None) × Slots-of rows slots
+Checked rows (Err f) = fault-of rows ≡ Some f

@@ -1,6 +1,7 @@
 // An MMD that is filled from rows, and keeps the register meaning for every layout that they can give.
 mod calls;
 mod change;
+mod check;
 mod entry;
 pub mod fault;
 pub mod row;

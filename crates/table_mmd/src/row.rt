@@ -1,6 +1,8 @@
 // A row of a layout, as a data sheet lists it: a register, a span of its bits, a kind and a number.
 ghost use mathlib.Core.Path.{_≡_};
+ghost use Prim.Native.Nat.{_+_, _-_, _≤_};
 ghost use Rattle.table_mmd.specs.Rows.{content-numbered, content-of, covers};
+ghost use Rattle.table_mmd.specs.Tables.{in-order};
 
 #[derive(Clone, Copy, PartialEq, Eq, Debug)]
 pub struct Row {
@@ -43,6 +45,21 @@ impl Row {
         ensures { λ r. ⌜ r ≡ covers (now (self .entry)) register bit ⌝ }
     {
         self.register == register && self.low <= bit && bit <= self.high
+    }
+
+    // How many bits the span has.
+    pub fn width(&self) -> u8
+        requires { ⌜ now self .low ≤ now self .high ⌝ ∗ ⌜ now self .high ≤ 15 ⌝ }
+        ensures { λ r. ⌜ r ≡ now (self .entry) .high + 1 - now (self .entry) .low ⌝ }
+    {
+        self.high + 1 - self.low
+    }
+
+    // The row may stand right before another: registers rise, and spans within one register.
+    pub fn comes_before(&self, next: &Row) -> bool
+        ensures { λ r. ⌜ r ≡ in-order (now (self .entry)) (now (next .entry)) ⌝ }
+    {
+        self.register < next.register || self.register == next.register && self.high < next.low
     }
 }
 

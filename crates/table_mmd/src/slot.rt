@@ -4,6 +4,7 @@ ghost use mathlib.Core.Path.{_≡_};
 ghost use lib.ListN.{getD};
 ghost use Rattle.mmd.specs.Cells.{has-field};
 ghost use Rattle.std.specs.declared.option.Option.the-variants.{Some, None};
+ghost use Rattle.table_mmd.specs.Checks.{joined};
 ghost use Rattle.table_mmd.specs.Slots.{empty-slot, field-of, narrow-short, slot-counted, slot-read, slot-reset};
 use crate::walk::Change;
 use mmd::counter::Counter;
@@ -24,6 +25,25 @@ pub struct Places {
     pub low: Option<u16>,
 }
 
+impl Places {
+    pub const NOWHERE: Places = Places {
+        short: None,
+        high: None,
+        low: None,
+    };
+
+    // The places of both; of one sort, the first.
+    pub fn joined(self, more: Places) -> Places
+        ensures { λ r. ⌜ r ≡ joined self more ⌝ }
+    {
+        Places {
+            short: self.short.or(more.short),
+            high: self.high.or(more.high),
+            low: self.low.or(more.low),
+        }
+    }
+}
+
 #[derive(Clone, Copy)]
 pub struct Slot {
     pub places: Places,
@@ -33,6 +53,12 @@ pub struct Slot {
 const LONG_TOP: u32 = 0xffff_ffff;
 
 impl Slot {
+    // A counter that no row names.
+    pub const EMPTY: Slot = Slot {
+        places: Places::NOWHERE,
+        counter: Counter::ZERO,
+    };
+
     // The slot after a register is read: a counter that shows there starts again.
     fn read(self, register: u16) -> Slot
         ensures { λ r. ⌜ r ≡ slot-read register self ⌝ }
@@ -106,12 +132,19 @@ pub impl Change<Slot> for ResetCounter as ResetCounterChange {
     }
 }
 
+// The slot of a counter's number; it is empty for one that is none of the table's.
+pub fn slot_of(slots: &[Slot], number: u16) -> Slot
+    ensures { λ r. ⌜ r ≡ getD (now (slots .entry)) number empty-slot ⌝ }
+{
+    match slots.get(usize::from(number)) {
+        Some(slot) => *slot,
+        None => Slot::EMPTY,
+    }
+}
+
 // The counter of a number; one that is none of the table's counts nothing.
 pub fn counter_of(slots: &[Slot], number: u16) -> Counter
     ensures { λ r. ⌜ r ≡ getD (now (slots .entry)) number empty-slot .counter ⌝ }
 {
-    match slots.get(usize::from(number)) {
-        Some(slot) => slot.counter,
-        None => Counter::ZERO,
-    }
+    slot_of(slots, number).counter
 }

@@ -1,11 +1,11 @@
-use mathlib.Core.Path.{sym, ap}
+use mathlib.Core.Path.{sym}
 use native.Mathlib.Omega.{arith}
 use Rattle.std.proofs.shelf.Lists.{getD-past}
 use Rattle.std.proofs.shelf.Tests.{ltb-false}
 use Rattle.table_mmd.specs.Slots.{empty-slot}
-use Rattle.table_mmd.proofs.slot.counter_of.Needs as need
+use Rattle.table_mmd.proofs.slot.slot_of.Needs as need
 
 pub returns-in-None : need.returns-in-None
 returns-in-None c =
     let past = ltb-false _ _ (sym (c .in-None .ensures tt .finds .0)) in
-    ap (λ s. s .counter) (sym (getD-past (c .args .slots .now) (c .args .number) empty-slot (omega arith)))
+    sym (getD-past (c .args .slots .now) (c .args .number) empty-slot (omega arith))
