@@ -2,6 +2,7 @@ pub mod After
 pub mod Checked
 pub mod Counters
 pub mod Disjoint
+pub mod Filled
 pub mod Formed
 pub mod Laid
 pub mod Passing

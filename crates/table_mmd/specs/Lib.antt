@@ -3,6 +3,7 @@ pub mod Checks
 pub mod Device
 pub mod Entries
 pub mod Faults
+pub mod Fills
 pub mod Layouts
 pub mod Rows
 pub mod Slots

@@ -4,6 +4,7 @@ mod change;
 mod check;
 mod entry;
 pub mod fault;
+pub mod fill;
 pub mod row;
 pub mod slot;
 mod span;

@@ -65,22 +65,22 @@ pub record Worked-examples : Type 0 where
   pub refused-start : split-of 0x40000000 ≡ Err Start
   -- latching high, line up: one, one; line goes down: one, then zero
   pub latches-high :
-    let up = after-line latching-high 1 true in
-    let read-up = after-read up 8 in
-    let down = after-line (after-read read-up 8) 1 false in
-    (read-word up 8 ≡ 0x0800) × (read-word read-up 8 ≡ 0x0800) × (read-word down 8 ≡ 0x0800) × (read-word (after-read down 8) 8 ≡ 0)
+      let up = after-line latching-high 1 true in
+      let read-up = after-read up 8 in
+      let down = after-line (after-read read-up 8) 1 false in
+      (read-word up 8 ≡ 0x0800) × (read-word read-up 8 ≡ 0x0800) × (read-word down 8 ≡ 0x0800) × (read-word (after-read down 8) 8 ≡ 0)
   -- latching low on a new MMD, line goes up: zero, then one
   pub latches-low :
-    let up = after-line latching-low 1 true in
-    (read-word up 8 ≡ 0) × (read-word (after-read up 8) 8 ≡ 0x0800)
+      let up = after-line latching-low 1 true in
+      (read-word up 8 ≡ 0) × (read-word (after-read up 8) 8 ≡ 0x0800)
   -- a six-bit counter at 60, counted by 10: 63, then 0
   pub short-counter-stops :
-    let m = after-count (counted-to 60 six-bits) 0 10 in
-    (read-word m 5 ≡ 63) × (read-word (after-read m 5) 5 ≡ 0)
+      let m = after-count (counted-to 60 six-bits) 0 10 in
+      (read-word m 5 ≡ 63) × (read-word (after-read m 5) 5 ≡ 0)
   -- a long counter at 4,294,967,290, counted by 10: halves 0xFFFF and 0xFFFF, the low half again 0xFFFF
   pub long-counter-stops :
-    let m = after-count (counted-to 4294967290 long) 0 10 in
-    let high = after-read m 77 in
-    (read-word m 77 ≡ 0xFFFF) × (read-word high 76 ≡ 0xFFFF) × (read-word (after-read high 76) 76 ≡ 0xFFFF)
+      let m = after-count (counted-to 4294967290 long) 0 10 in
+      let high = after-read m 77 in
+      (read-word m 77 ≡ 0xFFFF) × (read-word high 76 ≡ 0xFFFF) × (read-word (after-read high 76) 76 ≡ 0xFFFF)
   -- 0x8800 written, then 0: the setting is 0 again, the self-clearing bit stays one
   pub self-clearing-stays : read-word (after-write (after-write control 0 0x8800) 0 0) 0 ≡ 0x8000
