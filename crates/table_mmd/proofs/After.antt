@@ -14,11 +14,12 @@ use Rattle.bits.specs.Bits.{bit, Sets-bit}
 use Rattle.mmd.specs.Events.{after-read, after-write, after-line, after-count, after-finish, after-reset, moved}
 use Rattle.table_mmd.specs.Changes.{relatch, write-row, move-line, finish-bit, reset-row}
 use Rattle.table_mmd.specs.Entries.{rows-of}
-use Rattle.table_mmd.specs.Rows.{cell-of}
-use Rattle.table_mmd.specs.Slots.{empty-slot, field-of, slot-read, slot-counted, slot-reset}
+use Rattle.rows.specs.Rows.{cell-of}
+use Rattle.table_mmd.specs.Counts.{slot-read, slot-counted, slot-reset}
+use Rattle.rows.specs.Slots.{empty-slot, field-of}
 use Rattle.table_mmd.specs.Tables.{stored-of, table-meaning}
 use Rattle.table_mmd.specs.declared.entry.Entry.{Entry}
-use Rattle.table_mmd.specs.declared.slot.Slot.{Slot}
+use Rattle.rows.specs.declared.slot.Slot.{Slot}
 use Rattle.table_mmd.proofs.Places.{Fits, relatch-acts, write-acts, line-acts, finish-acts, reset-acts}
 use Rattle.table_mmd.proofs.Stored.{getD-map, rows-stay, stored-after}
 

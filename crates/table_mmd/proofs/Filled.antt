@@ -14,16 +14,18 @@ use Rattle.mmd.specs.Meaning.{default-state, new-meaning}
 use Rattle.mmd.specs.Invariant.{Keeps}
 use Rattle.mmd.proofs.Kept.{new-keeps}
 use Rattle.table_mmd.specs.Changes.{reset-row}
-use Rattle.table_mmd.specs.Checks.{Slots-of, fault-of, layout-of, places-of}
+use Rattle.rows.specs.Checks.{Slots-of, fault-of, layout-of, places-of}
 use Rattle.table_mmd.specs.Entries.{rows-fit, rows-of}
 use Rattle.table_mmd.specs.Fills.{new-entry}
-use Rattle.table_mmd.specs.Rows.{cell-of, span-fits}
-use Rattle.table_mmd.specs.Slots.{all-narrow, empty-slot, field-of, narrow-short}
-use Rattle.table_mmd.specs.Tables.{Laid, rising, table-meaning}
+use Rattle.rows.specs.Rows.{cell-of, span-fits}
+use Rattle.table_mmd.specs.Counts.{all-narrow}
+use Rattle.rows.specs.Slots.{empty-slot, field-of, narrow-short}
+use Rattle.rows.specs.Orders.{rising}
+use Rattle.table_mmd.specs.Tables.{Laid, table-meaning}
 use Rattle.table_mmd.specs.declared.entry.Entry.{Entry}
-use Rattle.table_mmd.specs.declared.row.Row.{Row}
-use Rattle.table_mmd.specs.declared.slot.Slot.{Slot}
-use Rattle.table_mmd.proofs.Passing.{passing-fits, passing-narrow, passing-rises, passing-sound}
+use Rattle.rows.specs.declared.row.Row.{Row}
+use Rattle.rows.specs.declared.slot.Slot.{Slot}
+use Rattle.rows.proofs.Passing.{passing-fits, passing-narrow, passing-rises, passing-sound}
 use Rattle.table_mmd.proofs.Places.{Fits, reset-acts}
 use Rattle.table_mmd.proofs.Stored.{stored-after}
 

@@ -16,15 +16,17 @@ use Rattle.mmd.specs.Invariant.{Keeps}
 use Rattle.mmd.specs.Meaning.{Meaning}
 use Rattle.table_mmd.specs.Changes.{relatch, write-row, move-line, finish-bit, reset-row}
 use Rattle.table_mmd.specs.Entries.{all-fit, rows-fit, rows-of}
-use Rattle.table_mmd.specs.Layouts.{Apart, Pairwise}
-use Rattle.table_mmd.specs.Rows.{span-fits}
-use Rattle.table_mmd.specs.Slots.{all-narrow, empty-slot, narrow-short, slot-read, slot-counted, slot-reset}
-use Rattle.table_mmd.specs.Tables.{Laid, rising, table-meaning}
+use Rattle.rows.specs.Layouts.{Apart, Pairwise}
+use Rattle.rows.specs.Rows.{span-fits}
+use Rattle.table_mmd.specs.Counts.{all-narrow, slot-read, slot-counted, slot-reset}
+use Rattle.rows.specs.Slots.{empty-slot, narrow-short}
+use Rattle.rows.specs.Orders.{rising}
+use Rattle.table_mmd.specs.Tables.{Laid, table-meaning}
 use Rattle.table_mmd.specs.declared.entry.Entry.{Entry}
-use Rattle.table_mmd.specs.declared.row.Row.{Row}
-use Rattle.table_mmd.specs.declared.slot.Slot.{Slot}
+use Rattle.rows.specs.declared.row.Row.{Row}
+use Rattle.rows.specs.declared.slot.Slot.{Slot}
 use Rattle.table_mmd.proofs.After.{read-means, write-means, line-means, count-means, finish-means, reset-means}
-use Rattle.table_mmd.proofs.Disjoint.{rising-apart}
+use Rattle.rows.proofs.Disjoint.{rising-apart}
 use Rattle.table_mmd.proofs.Places.{Fits, relatch-acts, write-acts, line-acts, finish-acts, reset-acts}
 use Rattle.table_mmd.proofs.Stored.{rows-stay}
 

@@ -1,11 +1,6 @@
 pub mod After
-pub mod Checked
-pub mod Counters
-pub mod Disjoint
 pub mod Filled
-pub mod Formed
 pub mod Laid
-pub mod Passing
 pub mod Places
 pub mod Shown
 pub mod Spans

@@ -13,11 +13,11 @@ use Rattle.mmd.specs.Events.{relatched, written, moved}
 use Rattle.mmd.specs.Meaning.{default-state}
 use Rattle.table_mmd.specs.Changes.{relatch, relatched-state, write-row, written-state, move-line, moved-state, finish-bit, finished-state, reset-row, reset-state}
 use Rattle.table_mmd.specs.Entries.{stored-at}
-use Rattle.table_mmd.specs.Rows.{cell-at, content-of, covers, one-bit, span-fits}
+use Rattle.rows.specs.Rows.{cell-at, content-of, covers, one-bit, span-fits}
 use Rattle.table_mmd.specs.declared.entry.Entry.{Entry}
-use Rattle.table_mmd.specs.declared.row.Content.{Content}
-use Rattle.table_mmd.specs.declared.row.Content.the-variants.{Fixed, Follower, LatchingHigh, LatchingLow, Setting, SelfClearing, ShortCounter, HighHalf, LowHalf, Unknown}
-use Rattle.table_mmd.proofs.Spans.{span-within, span-one-bit}
+use Rattle.rows.specs.declared.row.Content.{Content}
+use Rattle.rows.specs.declared.row.Content.the-variants.{Fixed, Follower, LatchingHigh, LatchingLow, Setting, SelfClearing, ShortCounter, HighHalf, LowHalf, Unknown}
+use Rattle.rows.proofs.Spans.{span-within, span-one-bit}
 use Rattle.table_mmd.proofs.Stored.{Acts}
 
 abbrev pub Fits : Entry → Type 0

@@ -11,14 +11,14 @@ use Rattle.bits.proofs.Bits.{gathered-alike, gathered-own}
 use Rattle.mmd.specs.Cells.{Cell, blank}
 use Rattle.mmd.specs.Meaning.{shows, shown, read-word}
 use Rattle.table_mmd.specs.Entries.{Has-bits, any-shows, row-shows, rows-of, shown-at, stored-at}
-use Rattle.table_mmd.specs.Layouts.{Apart, Pairwise}
-use Rattle.table_mmd.specs.Rows.{cell-at, cell-of, content-of, covers}
+use Rattle.rows.specs.Layouts.{Apart, Pairwise}
+use Rattle.rows.specs.Rows.{cell-at, cell-of, content-of, covers}
 use Rattle.table_mmd.specs.Tables.{stored-of, table-meaning}
 use Rattle.table_mmd.specs.declared.entry.Entry.{Entry}
-use Rattle.table_mmd.specs.declared.row.Content.{Content}
-use Rattle.table_mmd.specs.declared.row.Content.the-variants.{Fixed, Follower, LatchingHigh, LatchingLow, Setting, SelfClearing, ShortCounter, HighHalf, LowHalf, Unknown}
-use Rattle.table_mmd.specs.declared.row.Row.{Row}
-use Rattle.table_mmd.specs.declared.slot.Slot.{Slot}
+use Rattle.rows.specs.declared.row.Content.{Content}
+use Rattle.rows.specs.declared.row.Content.the-variants.{Fixed, Follower, LatchingHigh, LatchingLow, Setting, SelfClearing, ShortCounter, HighHalf, LowHalf, Unknown}
+use Rattle.rows.specs.declared.row.Row.{Row}
+use Rattle.rows.specs.declared.slot.Slot.{Slot}
 use Rattle.table_mmd.proofs.Walks.{or-false}
 
 module _ (all : List Entry) (lines : ℕ) (slots : List Slot) where

@@ -1,6 +1,6 @@
 -- A value shifted into a row's span, bit by bit.
 use mathlib.Core.Path.{_≡_, ap, _∙_}
-use mathlib.Core.Bool.{true, _&&_}
+use mathlib.Core.Bool.{_&&_}
 use mathlib.Core.Logic.{⊎-elim}
 use Prim.Native.Nat.{ℕ, _+_, _-_, _*_, _/_, _%_, _^_, _≤_, _<_}
 use native.Mathlib.Omega.{arith}
@@ -9,8 +9,6 @@ use lib.Dec.{leb, ltb}
 use Rattle.std.proofs.shelf.Bits.{shl-whole}
 use Rattle.std.proofs.shelf.Tests.{cases-lt}
 use Rattle.std.proofs.shelf.Ways.{tells}
-use Rattle.table_mmd.specs.declared.row.Row.{Row}
-use Rattle.table_mmd.specs.Rows.{content-of, one-bit, span-fits}
 use Rattle.bits.specs.Bits.{bit}
 use Rattle.bits.proofs.Bits.{bit-and, bit-shl, bit-shl-below, bit-shr, bit-ones}
 
@@ -31,14 +29,3 @@ put-bits low high v b order within small =
     let ones : bit (65535 * 2 ^ low) b ≡ ltb p 16 = ap (bit (65535 * 2 ^ low)) e ∙ bit-shl 65535 low p ∙ bit-ones p in
     grind (arith, tells))
     (cases-lt b low)
-
--- a span that fits its kind lies within the register
-pub span-within : (row : Row) → span-fits row ≡ true → (row .low ≤ row .high) × (row .high ≤ 15)
-unfolding span-fits
-span-within row fits =
-    let order : row .low ≤ row .high = grind (arith, tells) in let top : row .high ≤ 15 = grind (arith, tells) in (order, top)
-
--- and is one bit where the kind asks for one
-pub span-one-bit : (row : Row) → span-fits row ≡ true → one-bit (content-of row) ≡ true → row .low ≡ row .high
-unfolding span-fits
-span-one-bit row fits one = grind (arith, tells)

@@ -7,10 +7,10 @@ use lib.ListN.{getD}
 use Rattle.std.specs.shelf.Lists.{All}
 use Rattle.mmd.specs.Cells.{Cell, blank}
 use Rattle.table_mmd.specs.Entries.{rows-of, stored-at}
-use Rattle.table_mmd.specs.Rows.{cell-at, cell-of, content-of, covers}
+use Rattle.rows.specs.Rows.{cell-at, cell-of, content-of, covers}
 use Rattle.table_mmd.specs.Tables.{stored-of}
 use Rattle.table_mmd.specs.declared.entry.Entry.{Entry}
-use Rattle.table_mmd.specs.declared.row.Row.{Row}
+use Rattle.rows.specs.declared.row.Row.{Row}
 
 -- a map that leaves the default alone can be looked up through
 pub getD-map : {X : Type 0} (f : X → X) (d : X) → f d ≡ d → (xs : List X) (k : ℕ) → getD (map f xs) k d ≡ f (getD xs k d)

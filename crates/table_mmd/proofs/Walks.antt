@@ -10,10 +10,10 @@ use Rattle.std.proofs.shelf.Tests.{and-parts}
 use lib.Bits.{bitOr}
 use Rattle.bits.proofs.Bits.{bit-or}
 use Rattle.table_mmd.specs.Entries.{Has-bits, all-fit, any-shows, row-shows}
-use Rattle.table_mmd.specs.Rows.{span-fits}
+use Rattle.rows.specs.Rows.{span-fits}
+use Rattle.rows.proofs.Spans.{zero-row}
 use Rattle.table_mmd.specs.declared.entry.Entry.{Entry}
-use Rattle.table_mmd.specs.declared.row.Row.{Row}
-use Rattle.table_mmd.specs.declared.slot.Slot.{Slot}
+use Rattle.rows.specs.declared.slot.Slot.{Slot}
 
 -- the rows from place i on are as they were
 pub not-yet-changed : {X : Type 0} (f : X → X) (xs ys : List X) (i : ℕ) (d : X) → i < length xs → ys ≡ map f (take i xs) ++ drop i xs → getD ys i d ≡ getD xs i d
@@ -32,10 +32,7 @@ fits-at [] i d fit within = absurd (omega arith)
 fits-at (e ∷ es) zero d fit within = and-parts (span-fits (e .row)) (all-fit es) fit .0
 fits-at (e ∷ es) (suc i) d fit within = fits-at es i d (and-parts (span-fits (e .row)) (all-fit es) fit .1) (omega arith)
 
--- the elements that stand at no place, as a loop writes them
-abbrev pub zero-row : Row
-zero-row = record { register = 0; high = 0; low = 0; kind = 0; number = 0 }
-
+-- the element that stands at no place, as a loop writes it
 abbrev pub zero-entry : Entry
 zero-entry = record { row = zero-row; state = 0 }
 

@@ -4,10 +4,10 @@ use mathlib.Core.Bool.{Bool, true, false, cond, _&&_, not}
 use lib.Bits.{bitOr}
 use lib.Dec.{eqb}
 use Rattle.bits.specs.Bits.{bit}
-use Rattle.table_mmd.specs.Rows.{content-of, covers}
+use Rattle.rows.specs.Rows.{content-of, covers}
 use Rattle.table_mmd.specs.declared.entry.Entry.{Entry}
-use Rattle.table_mmd.specs.declared.row.Content.{Content}
-use Rattle.table_mmd.specs.declared.row.Content.the-variants.{Fixed, Follower, LatchingHigh, LatchingLow, Setting, SelfClearing, ShortCounter, HighHalf, LowHalf, Unknown}
+use Rattle.rows.specs.declared.row.Content.{Content}
+use Rattle.rows.specs.declared.row.Content.the-variants.{Fixed, Follower, LatchingHigh, LatchingLow, Setting, SelfClearing, ShortCounter, HighHalf, LowHalf, Unknown}
 
 -- a state that is one at every place, or at none
 abbrev pub alike : Bool → ℕ

@@ -6,13 +6,13 @@ use mathlib.Core.List.{List, [], _∷_, map}
 use Prim.Native.Nat.{_<_}
 use lib.ListN.{getD}
 use Rattle.bits.specs.Bits.{bit}
-use Rattle.table_mmd.specs.Rows.{content-of, covers, span-fits}
-use Rattle.table_mmd.specs.Slots.{empty-slot}
+use Rattle.rows.specs.Rows.{content-of, covers, span-fits}
+use Rattle.rows.specs.Slots.{empty-slot}
 use Rattle.table_mmd.specs.declared.entry.Entry.{Entry}
-use Rattle.table_mmd.specs.declared.row.Row.{Row}
-use Rattle.table_mmd.specs.declared.row.Content.{Content}
-use Rattle.table_mmd.specs.declared.row.Content.the-variants.{Fixed, Follower, LatchingHigh, LatchingLow, Setting, SelfClearing, ShortCounter, HighHalf, LowHalf, Unknown}
-use Rattle.table_mmd.specs.declared.slot.Slot.{Slot}
+use Rattle.rows.specs.declared.row.Row.{Row}
+use Rattle.rows.specs.declared.row.Content.{Content}
+use Rattle.rows.specs.declared.row.Content.the-variants.{Fixed, Follower, LatchingHigh, LatchingLow, Setting, SelfClearing, ShortCounter, HighHalf, LowHalf, Unknown}
+use Rattle.rows.specs.declared.slot.Slot.{Slot}
 
 -- latches, settings and self-clearing bits store their state
 abbrev pub stored-at : Content → ℕ → ℕ → Bool

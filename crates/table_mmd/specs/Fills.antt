@@ -10,14 +10,14 @@ use Rattle.std.specs.declared.result.Result.the-variants.{Ok, Err}
 use Rattle.mmd.specs.Invariant.{Settled}
 use Rattle.mmd.specs.Meaning.{new-meaning}
 use Rattle.table_mmd.specs.Changes.{reset-row}
-use Rattle.table_mmd.specs.Checks.{fault-of, layout-of}
+use Rattle.rows.specs.Checks.{fault-of, layout-of}
 use Rattle.table_mmd.specs.Device.{meaning-of}
-use Rattle.table_mmd.specs.Layouts.{Forms-layout}
-use Rattle.table_mmd.specs.Tables.{rising}
+use Rattle.rows.specs.Layouts.{Forms-layout}
+use Rattle.rows.specs.Orders.{rising}
 use Rattle.table_mmd.specs.declared.entry.Entry.{Entry}
 use Rattle.table_mmd.specs.declared.fill.FillRefusal.{FillRefusal}
 use Rattle.table_mmd.specs.declared.fill.FillRefusal.the-variants.{Faulty, Memory}
-use Rattle.table_mmd.specs.declared.row.Row.{Row}
+use Rattle.rows.specs.declared.row.Row.{Row}
 use Rattle.table_mmd.specs.declared.table.TableMmd.{TableMmd}
 
 -- the first row at fault is told; else the MMD has exactly these rows, and nothing has happened to it; or there is no memory

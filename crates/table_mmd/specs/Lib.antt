@@ -1,11 +1,6 @@
 pub mod Changes
-pub mod Checks
+pub mod Counts
 pub mod Device
 pub mod Entries
-pub mod Faults
 pub mod Fills
-pub mod Layouts
-pub mod Rows
-pub mod Slots
-pub mod Spans
 pub mod Tables

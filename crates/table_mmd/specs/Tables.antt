@@ -1,19 +1,19 @@
 -- What a table of rows, lines and counters means.
 use Prim.Native.Nat.{ℕ, _-_}
 use mathlib.Core.Path.{_≡_}
-use mathlib.Core.Bool.{Bool, true, false, cond, _&&_, _||_}
+use mathlib.Core.Bool.{Bool, true, false, cond}
 use mathlib.Core.List.{List, [], _∷_}
-use lib.Dec.{eqb, ltb}
 use lib.ListN.{getD, length}
 use Rattle.bits.specs.Bits.{bit}
 use Rattle.mmd.specs.Invariant.{Keeps}
 use Rattle.mmd.specs.Meaning.{Layout, Meaning}
 use Rattle.table_mmd.specs.Entries.{all-fit, rows-of, stored-at}
-use Rattle.table_mmd.specs.Rows.{cell-of, content-of, covers}
-use Rattle.table_mmd.specs.Slots.{all-narrow, empty-slot, field-of}
+use Rattle.rows.specs.Orders.{rising}
+use Rattle.rows.specs.Rows.{cell-of, content-of, covers}
+use Rattle.table_mmd.specs.Counts.{all-narrow}
+use Rattle.rows.specs.Slots.{empty-slot, field-of}
 use Rattle.table_mmd.specs.declared.entry.Entry.{Entry}
-use Rattle.table_mmd.specs.declared.row.Row.{Row}
-use Rattle.table_mmd.specs.declared.slot.Slot.{Slot}
+use Rattle.rows.specs.declared.slot.Slot.{Slot}
 
 -- the state at a register and bit: that of the first row that covers it
 abbrev pub stored-of : List Entry → ℕ → ℕ → Bool
@@ -29,18 +29,6 @@ table-meaning es lines slots =
       counter = λ k. getD slots k empty-slot .counter .value;
       held = λ k. getD slots k empty-slot .counter .held;
     }
-
--- rows rise: by register, and within one register by their spans
-abbrev pub in-order : Row → Row → Bool
-in-order a b = ltb (a .register) (b .register) || (eqb (a .register) (b .register) && ltb (a .high) (b .low))
-
-abbrev pub rising-after : Row → List Row → Bool
-rising-after a [] = true
-rising-after a (b ∷ rest) = in-order a b && rising-after b rest
-
-abbrev pub rising : List Row → Bool
-rising [] = true
-rising (row ∷ rest) = rising-after row rest
 
 -- what a table keeps at all times
 pub record Laid (es : List Entry) (lines : ℕ) (slots : List Slot) : Type 0 where

@@ -10,11 +10,12 @@ use crate::change::ResetChange;
 use crate::change::Written;
 use crate::change::WrittenChange;
 use crate::change::read_all;
+use crate::counters::ReadAt;
+use crate::counters::ReadAtChange;
+use crate::counters::ResetCounter;
+use crate::counters::ResetCounterChange;
+use crate::counters::counted;
 use crate::entry::is_self_clearing;
-use crate::slot::ReadAt;
-use crate::slot::ReadAtChange;
-use crate::slot::ResetCounter;
-use crate::slot::ResetCounterChange;
 use crate::table::TableMmd;
 use crate::walk::change_all;
 use bits::with_bit;
@@ -51,7 +52,7 @@ pub impl Mmd for TableMmd as TableMmdMmd {
         if place >= 16 {
             return Err(MmdRefusal::NoField);
         }
-        match self.slots[place].counted(amount) {
+        match counted(self.slots[place], amount) {
             Some(slot) => {
                 self.slots[place] = slot;
                 Ok(())

@@ -4,14 +4,14 @@ ghost use mathlib.Core.Bool.{true};
 ghost use mathlib.Core.List.{map};
 ghost use Rattle.table_mmd.specs.Changes.{relatch, write-row, move-line, finish-bit, reset-row};
 ghost use Rattle.table_mmd.specs.Entries.{Has-bits, all-fit, any-shows};
-ghost use Rattle.table_mmd.specs.Rows.{span-fits};
+ghost use Rattle.rows.specs.Rows.{span-fits};
 use crate::entry::Entry;
-use crate::row::Content;
-use crate::slot::Slot;
 use crate::span::taken;
 use crate::walk::Change;
 use bits::is_one;
 use bits::sixteen;
+use rows::row::Content;
+use rows::slot::Slot;
 
 // What the rows show of a register; its latches then equal their lines.
 pub fn read_all(entries: &mut [Entry], register: u16, lines: u32, slots: &[Slot]) -> u16

@@ -4,16 +4,16 @@ ghost use mathlib.Core.Bool.{true};
 ghost use Prim.Native.Nat.{ℕ};
 ghost use Rattle.mmd.specs.Cells.{is-self-clearing};
 ghost use Rattle.table_mmd.specs.Entries.{Has-bits, Shows-value, row-shows, rows-of, shown-at};
-ghost use Rattle.table_mmd.specs.Rows.{cell-at, cell-of, content-of, span-fits};
-use crate::row::Content;
-use crate::row::Row;
-use crate::slot::Slot;
-use crate::slot::counter_of;
+ghost use Rattle.rows.specs.Rows.{cell-at, cell-of, content-of, span-fits};
+use crate::counters::counter_of;
 use crate::span::put;
 use bits::high_half;
 use bits::is_one;
 use bits::low_half;
 use bits::sixteen;
+use rows::row::Content;
+use rows::row::Row;
+use rows::slot::Slot;
 
 #[derive(Clone, Copy)]
 pub struct Entry {

@@ -1,8 +1,8 @@
 // Moving bits between a row's span and the low end of a word.
 ghost use mathlib.Core.Path.{_≡_};
 ghost use Prim.Native.Nat.{_/_, _^_, _≤_};
-ghost use Rattle.table_mmd.specs.Spans.{Put-into-span};
-use crate::row::Row;
+ghost use Rattle.rows.specs.Spans.{Put-into-span};
+use rows::row::Row;
 
 // A register word with a value in the row's span, cut to the span, and zeros beside it.
 pub fn put(row: &Row, value: u16) -> u16

@@ -2,7 +2,7 @@
 ghost use Rattle.std.specs.Of.Vec.{vec-items};
 ghost use Rattle.table_mmd.specs.Tables.{Laid};
 use crate::entry::Entry;
-use crate::slot::Slot;
+use rows::slot::Slot;
 
 #[derive(Drop)]
 pub struct TableMmd {

@@ -4,8 +4,8 @@ use Rattle.bits.specs.Bits.{bit, gathered}
 use Rattle.frame.specs.Words.{built, split-of}
 use Rattle.mmd.specs.Events.{after-read, after-write, after-line, after-count}
 use Rattle.mmd.specs.Meaning.{new-meaning, read-word, shown}
-use Rattle.table_mmd.specs.Checks.{layout-of}
-use Rattle.table_mmd.specs.Rows.{content-of}
+use Rattle.rows.specs.Checks.{layout-of}
+use Rattle.rows.specs.Rows.{content-of}
 use Rattle.worked_examples.specs.Examples.{Worked-examples}
 
 pub worked-examples : Worked-examples

@@ -12,8 +12,8 @@ use Rattle.frame.specs.declared.frame.Operation.the-variants.{Address, Read}
 use Rattle.frame.specs.declared.refusal.FrameRefusal.the-variants.{Start, Turnaround}
 use Rattle.mmd.specs.Events.{after-read, after-write, after-line, after-count}
 use Rattle.mmd.specs.Meaning.{Layout, Meaning, new-meaning, read-word}
-use Rattle.table_mmd.specs.Checks.{layout-of}
-use Rattle.table_mmd.specs.declared.row.Row.{Row}
+use Rattle.rows.specs.Checks.{layout-of}
+use Rattle.rows.specs.declared.row.Row.{Row}
 
 -- ---- frames: port 1, device 3
 

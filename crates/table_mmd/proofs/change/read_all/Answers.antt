@@ -7,7 +7,7 @@ use Rattle.std.proofs.shelf.Lists.{getD-default, take-all}
 use Rattle.bits.proofs.Bits.{bit-zero}
 use Rattle.table_mmd.specs.Changes.{relatch}
 use Rattle.table_mmd.specs.Entries.{Has-bits, any-shows, row-shows}
-use Rattle.table_mmd.specs.Rows.{span-fits}
+use Rattle.rows.specs.Rows.{span-fits}
 use Rattle.table_mmd.proofs.Walks.{not-yet-changed, fits-at, all-changed, any-shows-more, zero-entry}
 use Rattle.table_mmd.proofs.change.read_all.Needs as need
 

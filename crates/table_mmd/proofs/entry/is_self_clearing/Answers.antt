@@ -7,7 +7,7 @@ use Rattle.std.proofs.shelf.Lists.{drop-more, drop-all}
 use Rattle.std.proofs.shelf.Tests.{cond-true, cond-false}
 use Rattle.mmd.specs.Cells.{is-self-clearing}
 use Rattle.table_mmd.specs.Entries.{rows-of}
-use Rattle.table_mmd.specs.Rows.{cell-at, cell-of, content-of}
+use Rattle.rows.specs.Rows.{cell-at, cell-of, content-of}
 use Rattle.table_mmd.proofs.Walks.{zero-entry}
 use Rattle.table_mmd.proofs.entry.is_self_clearing.Needs as need
 

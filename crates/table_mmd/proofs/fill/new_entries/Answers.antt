@@ -5,8 +5,8 @@ use native.Mathlib.Omega.{arith}
 use Rattle.std.proofs.shelf.Elements.{all-getD}
 use Rattle.std.proofs.shelf.Lists.{map-more, take-all}
 use Rattle.table_mmd.specs.Fills.{new-entry}
-use Rattle.table_mmd.specs.Rows.{span-fits}
-use Rattle.table_mmd.specs.declared.row.Row.{Row}
+use Rattle.rows.specs.Rows.{span-fits}
+use Rattle.rows.specs.declared.row.Row.{Row}
 use Rattle.table_mmd.proofs.fill.new_entries.Needs as need
 
 pub apply-requires : need.apply-requires

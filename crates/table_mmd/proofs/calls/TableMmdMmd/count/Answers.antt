@@ -12,7 +12,8 @@ use Rattle.mmd.specs.Cells.{has-field}
 use Rattle.mmd.specs.declared.refusal.MmdRefusal.the-variants.{NoField}
 use Rattle.mmd.specs.Events.{after-count}
 use Rattle.mmd.specs.Refusals.{count-answer}
-use Rattle.table_mmd.specs.Slots.{empty-slot, field-of, slot-counted}
+use Rattle.table_mmd.specs.Counts.{slot-counted}
+use Rattle.rows.specs.Slots.{empty-slot, field-of}
 use Rattle.table_mmd.specs.Tables.{Laid, table-meaning}
 use Rattle.table_mmd.proofs.After.{count-means}
 use Rattle.table_mmd.proofs.Laid.{all-fits-of, narrow-of, narrow-at, slots-of, count-laid}

@@ -14,7 +14,7 @@ use Rattle.std.specs.declared.result.Result.the-variants.{Ok, Err}
 use Rattle.mmd.specs.Cells.{is-self-clearing}
 use Rattle.mmd.specs.declared.refusal.MmdRefusal.the-variants.{NotSelfClearing}
 use Rattle.table_mmd.specs.Entries.{rows-of}
-use Rattle.table_mmd.specs.Rows.{cell-of}
+use Rattle.rows.specs.Rows.{cell-of}
 use Rattle.table_mmd.proofs.calls.TableMmdMmd.finish.Needs as need
 
 pub returns-then-not-is-self-clearing : need.returns-then-not-is-self-clearing

@@ -1,4 +1,4 @@
-use Rattle.table_mmd.proofs.Spans.{span-within}
+use Rattle.rows.proofs.Spans.{span-within}
 use Rattle.table_mmd.proofs.change.WrittenChange.apply.Needs as need
 
 pub taken-requires : need.taken-requires

@@ -4,7 +4,7 @@ use native.Mathlib.Omega.{arith}
 use Rattle.std.proofs.shelf.Tests.{cases-lt}
 use Rattle.std.proofs.shelf.Ways.{tells}
 use Rattle.bits.proofs.Bits.{bit-zero}
-use Rattle.table_mmd.proofs.Spans.{span-within}
+use Rattle.rows.proofs.Spans.{span-within}
 use Rattle.table_mmd.proofs.entry.Entry.shown.Needs as need
 
 pub put-requires : need.put-requires

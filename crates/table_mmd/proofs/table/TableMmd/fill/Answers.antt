@@ -4,12 +4,12 @@ use Rattle.std.proofs.shelf.Results.{err-from-errBy}
 use Rattle.std.specs.Of.Vec.{vec-items}
 use Rattle.mmd.proofs.Kept.{new-settled}
 use Rattle.mmd.specs.Invariant.{Settled}
-use Rattle.table_mmd.specs.Checks.{layout-of}
+use Rattle.rows.specs.Checks.{layout-of}
 use Rattle.table_mmd.specs.Fills.{new-entry}
 use Rattle.table_mmd.specs.Tables.{Laid, table-meaning}
 use Rattle.table_mmd.proofs.Filled.{new-laid, new-means}
-use Rattle.table_mmd.proofs.Formed.{passes-exactly}
-use Rattle.table_mmd.proofs.Passing.{passing-fits}
+use Rattle.rows.proofs.Formed.{passes-exactly}
+use Rattle.rows.proofs.Passing.{passing-fits}
 use Rattle.table_mmd.proofs.table.TableMmd.fill.Needs as need
 
 pub returns-in-Break-slots : need.returns-in-Break-slots

@@ -1,6 +1,0 @@
-use mathlib.Core.Path.{sym}
-use Rattle.table_mmd.proofs.Spans.{span-within}
-use Rattle.table_mmd.proofs.check.row_fault.Needs as need
-
-pub number-fits-requires : need.number-fits-requires
-number-fits-requires c κs = span-within (c .args .row .now) (sym (c .if-not-span-fits .ensures tt))
