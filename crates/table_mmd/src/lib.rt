@@ -1,5 +1,5 @@
 // An MMD that is filled from rows, and keeps the register meaning for every layout that they can give.
-mod calls;
+pub mod calls;
 mod change;
 mod counters;
 mod entry;
