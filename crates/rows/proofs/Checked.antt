@@ -1,8 +1,8 @@
 -- The check of rows, step by step: the places of their counters, the first fault and the halves.
-use mathlib.Core.Path.{_≡_, refl, sym, ap, ap₂, _∙_}
+use mathlib.Core.Path.{_≡_, refl, sym, ap, _∙_}
 use mathlib.Core.Bool.{Bool, true, false, cond}
 use mathlib.Core.List.{List, [], _∷_, _++_}
-use Prim.Native.Nat.{ℕ, zero, suc, _+_, _-_, _≤_, _<_}
+use Prim.Native.Nat.{ℕ, suc, _+_, _-_, _≤_, _<_}
 use native.Mathlib.Omega.{arith}
 use lib.Dec.{ltb}
 use lib.ListN.{length, getD, take, drop}
@@ -83,7 +83,7 @@ partnerless-at p rows i d alone within found =
     let here = ap (first-partnerless p i) (drop-more rows i d within) in cc
 
 -- a row that passes, fits
-pub passed-fits : (earlier : List Row) (row : Row) → row-fault earlier row ≡ None → (span-fits row ≡ true) × (number-fits row ≡ true)
+pub passed-fits : (earlier : List Row) (row : Row) → None ≡ row-fault earlier row → (span-fits row ≡ true) × (number-fits row ≡ true)
 passed-fits earlier row passes =
     let span : span-fits row ≡ true = grind (arith, tells) in let number : number-fits row ≡ true = grind (arith, tells) in (span, number)
 
@@ -98,17 +98,17 @@ slots-more rows i d before after within holds joins = (
 
 -- ---- the whole check
 
--- what the second walk finds among the slots is what the rows have
-pub fault-by-slots : (rows : List Row) (slots : List Slot) → Slots-of rows slots → first-fault [] rows ≡ None → ltb 64 (length rows) ≡ false
-    → fault-of rows ≡ first-partnerless (places-in slots) 0 rows
-unfolding fault-of
-fault-by-slots rows slots holds none few =
-    let same = ap (λ p. first-partnerless p 0 rows) (places-at rows slots holds) in cc
-
-pub fault-of-rows : (rows : List Row) (f : FaultAt) → first-fault [] rows ≡ Some f → ltb 64 (length rows) ≡ false → fault-of rows ≡ Some f
-unfolding fault-of
-fault-of-rows rows f found few = cc
-
-pub fault-too-many : (rows : List Row) → ltb 64 (length rows) ≡ true → fault-of rows ≡ Some (record { fault = TooManyRows; place = 64 })
+pub fault-too-many : (rows : List Row) → true ≡ ltb 64 (length rows) → fault-of rows ≡ Some (record { fault = TooManyRows; place = 64 })
 unfolding fault-of
 fault-too-many rows many = cc
+
+pub fault-of-rows : (rows : List Row) (f : FaultAt) → false ≡ ltb 64 (length rows) → first-fault [] rows ≡ Some f → fault-of rows ≡ Some f
+unfolding fault-of
+fault-of-rows rows f few found = cc
+
+-- what the second walk finds by the slots of rows that all pass
+pub fault-by-slots : (rows : List Row) (slots : List Slot) (f : Option FaultAt) → false ≡ ltb 64 (length rows) → (first-fault [] rows ≡ None) × Slots-of rows slots
+    → f ≡ first-partnerless (places-in slots) 0 rows → fault-of rows ≡ f
+unfolding fault-of
+fault-by-slots rows slots f few placed found =
+    let same = ap (λ p. first-partnerless p 0 rows) (places-at rows slots (placed .1)) in cc

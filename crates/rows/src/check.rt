@@ -172,46 +172,27 @@ fn note(slots: &mut [Slot], row: &Row)
     requires { ⌜ length (now slots) ≡ 16 ⌝ ∗ ⌜ now row .low ≤ now row .high ⌝ ∗ ⌜ now row .high ≤ 15 ⌝ ∗ ⌜ number-fits (now row) ≡ true ⌝ }
     ensures { λ _. ⌜ Joins (now (row .entry)) (now (slots .entry)) (now (slots .exit)) ⌝ }
 {
-    match row.content() {
+    let mut place = Places::NOWHERE;
+    let number = match row.content() {
         Content::ShortCounter(number) => {
-            let short = Some(ShortPlace {
+            place.short = Some(ShortPlace {
                 register: row.register,
                 low: row.low,
                 width: row.width(),
             });
-            add_place(
-                slots,
-                number,
-                Places {
-                    short,
-                    ..Places::NOWHERE
-                },
-            );
+            number
         }
         Content::HighHalf(number) => {
-            let high = Some(row.register);
-            add_place(
-                slots,
-                number,
-                Places {
-                    high,
-                    ..Places::NOWHERE
-                },
-            );
+            place.high = Some(row.register);
+            number
         }
         Content::LowHalf(number) => {
-            let low = Some(row.register);
-            add_place(
-                slots,
-                number,
-                Places {
-                    low,
-                    ..Places::NOWHERE
-                },
-            );
+            place.low = Some(row.register);
+            number
         }
-        _ => {}
-    }
+        _ => return,
+    };
+    add_place(slots, number, place);
 }
 
 // The counters that the rows place, or the first row that breaks a rule of its own.

@@ -1,4 +1,4 @@
-use mathlib.Core.Path.{sym, subst, _∙_}
+use mathlib.Core.Path.{subst, _∙_}
 use native.Mathlib.Omega.{arith}
 use lib.ListN.{take, getD}
 use Rattle.std.proofs.shelf.Lists.{at-drop-all, take-all}
@@ -16,7 +16,7 @@ returns-in-Some c =
 pub note-requires : need.note-requires
 note-requires c κs =
     let row = getD (c .args .rows .now) (c .loop-place .place) zero-row in
-    let fits = passed-fits (take (c .loop-place .place) (c .args .rows .now)) row (sym (c .in-rest .ensures tt)) in
+    let fits = passed-fits (take (c .loop-place .place) (c .args .rows .now)) row (c .in-rest .ensures tt) in
     let span = span-within row (fits .0) in
     (c .loop-place .inv .2 .0, (span .0, (span .1, fits .1)))
 
