@@ -16,10 +16,7 @@ impl Counter {
         ensures { λ r. ⌜ r ≡ record { value = min top (self .value + amount); held = self .held } ⌝ }
     {
         let value = self.value.saturating_add(u32::from(amount)).min(top);
-        Counter {
-            value,
-            held: self.held,
-        }
+        Counter { value, ..self }
     }
 
     // The count goes into the held copy, and starts again from zero.
