@@ -1,14 +1,14 @@
--- What each call does to a long counter, and what its halves show.
+-- What each call does to a counter, and what its bits show.
 use mathlib.Core.Path.{_≡_, refl, sym, ap, _∙_}
 use mathlib.Core.Bool.{Bool, true, false, cond}
-use Prim.Native.Nat.{ℕ, _+_, _*_, _/_, _%_, _^_, _≤_, _<_, min}
+use Prim.Native.Nat.{ℕ, _+_, _-_, _/_, _%_, _^_, _≤_, _<_, min}
 use native.Mathlib.Omega.{arith}
 use native.Mathlib.Nat.{mod-eq-of-lt}
 use lib.Dec.{eqb}
 use Rattle.std.proofs.shelf.Ways.{tells}
 use Rattle.bits.specs.Bits.{bit, gathered}
 use Rattle.bits.proofs.Bits.{gathered-alike, gathered-own, bit-shr}
-use Rattle.mmd.specs.Cells.{long-field, high-half, low-half, top}
+use Rattle.mmd.specs.Cells.{short-field, long-field}
 use Rattle.mmd.specs.Events.{after-read, after-write, after-line, after-count, after-finish, after-reset}
 use Rattle.mmd.specs.Invariant.{Keeps, Settled}
 use Rattle.mmd.specs.Meaning.{Meaning, shown, read-word}
@@ -70,3 +70,17 @@ module _ (m : Meaning) (k h q : ℕ) (here : m .layout .field k ≡ long-field h
     pub low-word : read-word m q ≡ m .held k % 65536
     unfolding read-word
     low-word = gathered-alike (shown m q) (bit (m .held k)) 16 low-bit ∙ gathered-own (m .held k) 16
+
+-- a short counter k of w bits, from bit low of register r on
+module _ (m : Meaning) (k r low w : ℕ) (here : m .layout .field k ≡ short-field r low w) where
+  pub short-shows-count : Keeps m → (p : ℕ) → p < w → shown m r (low + p) ≡ bit (m .counter k) p
+  unfolding shown
+  short-shows-count keeps p below = let cell = keeps .sound .short-whole k r low w p here below in grind (arith, tells)
+
+  pub short-after-read : (q : ℕ) → after-read m q .counter k ≡ cond (eqb r q) 0 (m .counter k)
+  unfolding after-read
+  short-after-read q = grind (arith, tells)
+
+  pub short-after-count : (n amount : ℕ) → after-count m n amount .counter k ≡ cond (eqb k n) (min (2 ^ w - 1) (m .counter k + amount)) (m .counter k)
+  unfolding after-count
+  short-after-count n amount = grind (arith, tells)
