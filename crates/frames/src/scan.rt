@@ -5,7 +5,7 @@ ghost use Rattle.frames.specs.Scans.{glyph-of, next, line-of};
 ghost use Rattle.frames.specs.Lines.{Holds-what-was-scanned};
 
 // What a line holds.
-#[derive(Clone, Copy, PartialEq, Eq, Debug)]
+#[derive(Clone, Copy)]
 pub enum Line {
     Blank,
     Word(u32),

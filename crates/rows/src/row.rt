@@ -4,7 +4,7 @@ ghost use Prim.Native.Nat.{_+_, _-_, _≤_};
 ghost use Rattle.rows.specs.Rows.{content-numbered, content-of, covers};
 ghost use Rattle.rows.specs.Orders.{in-order};
 
-#[derive(Clone, Copy, PartialEq, Eq, Debug)]
+#[derive(Clone, Copy)]
 pub struct Row {
     pub register: u16,
     pub high: u8,
@@ -14,7 +14,7 @@ pub struct Row {
 }
 
 // What a row puts into its span: its kind, with its number as that kind reads it.
-#[derive(Clone, Copy, PartialEq, Eq, Debug)]
+#[derive(Clone, Copy)]
 pub enum Content {
     // kind 1, with the value
     Fixed(u16),
