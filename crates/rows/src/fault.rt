@@ -38,7 +38,7 @@ impl TableFault {
 }
 
 // A fault, and the place of the first row at fault, from 0.
-#[derive(Clone, Copy, PartialEq, Eq, Debug)]
+#[derive(Clone, Copy)]
 pub struct FaultAt {
     pub fault: TableFault,
     pub place: usize,

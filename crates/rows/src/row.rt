@@ -56,7 +56,7 @@ impl Row {
     }
 
     // The row may stand right before another: registers rise, and spans within one register.
-    pub fn comes_before(&self, next: &Row) -> bool
+    pub(crate) fn comes_before(&self, next: &Row) -> bool
         ensures { λ r. ⌜ r ≡ in-order (now (self .entry)) (now (next .entry)) ⌝ }
     {
         self.register < next.register || self.register == next.register && self.high < next.low

@@ -29,7 +29,7 @@ impl Places {
     };
 
     // The places of both; of one sort, the first.
-    pub fn joined(self, more: Places) -> Places
+    pub(crate) fn joined(self, more: Places) -> Places
         ensures { λ r. ⌜ r ≡ joined self more ⌝ }
     {
         Places {

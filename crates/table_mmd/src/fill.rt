@@ -15,13 +15,11 @@ use crate::table::TableMmd;
 use crate::walk::Change;
 use rows::check::check;
 use rows::fault::FaultAt;
-use rows::fault::FaultAtDebug;
-use rows::fault::FaultAtPartialEq;
 use rows::row::Row;
 use std::alloc::AllocError;
 use std::alloc::Global;
 
-#[derive(Clone, Copy, PartialEq, Eq, Debug)]
+#[derive(Clone, Copy)]
 pub enum FillRefusal {
     Faulty(FaultAt),
     // no memory for the rows
