@@ -106,23 +106,23 @@ module _ (es : List Entry) (fit : All Fits es) (lines : ℕ) (slots : List Slot)
   unfolding table-meaning after-line
   line-means n up lines′ small sets =
       same-meaning _ _ (λ i. record { cell = cell-of (rows-stay (move-line n up) (line-acts n up .same-row) es i); field = λ k. field-of (getD slots k empty-slot .places) })
-        sets (λ q b. stored-after (line-acts n up) es q b fit ∙ sym (cond-true (ltb n 32) _ _ (lt-ltb n 32 small))) (λ k. refl) (λ k. refl)
+      sets (λ q b. stored-after (line-acts n up) es q b fit ∙ sym (cond-true (ltb n 32) _ _ (lt-ltb n 32 small))) (λ k. refl) (λ k. refl)
 
   -- one that it has not
   pub no-line-means : (n : ℕ) (up : Bool) → 32 ≤ n → table-meaning es lines slots ≡ after-line (table-meaning es lines slots) n up
   unfolding table-meaning after-line
   no-line-means n up large =
       same-meaning _ _ refl (λ l. sym (cond-false (eqb l n && ltb n 32) up (bit lines l) (and-right (eqb l n) (ltb n 32) (le-ltb n 32 large))))
-        (λ q b. sym (cond-false (ltb n 32) _ _ (le-ltb n 32 large))) (λ k. refl) (λ k. refl)
+      (λ q b. sym (cond-false (ltb n 32) _ _ (le-ltb n 32 large))) (λ k. refl) (λ k. refl)
 
   pub count-means : (k amount : ℕ) → k < length slots → table-meaning es lines (set slots k (slot-counted amount (getD slots k empty-slot))) ≡ after-count (table-meaning es lines slots) k amount
   unfolding table-meaning after-count
   count-means k amount within =
       same-meaning _ _
-        (λ i. record {
-          cell = cell-of (rows-of es);
-          field = λ j. field-of ((ap (λ s. s .places) (counted-at slots k amount within j) ∙ places-stay amount (eqb j k) (getD slots j empty-slot)) i);
-        })
-        (λ l. refl) (λ q b. refl)
-        (λ j. ap (λ s. s .counter .value) (counted-at slots k amount within j) ∙ value-counted amount (eqb j k) (getD slots j empty-slot))
-        (λ j. ap (λ s. s .counter .held) (counted-at slots k amount within j) ∙ held-stays amount (eqb j k) (getD slots j empty-slot))
+      (λ i. record {
+        cell = cell-of (rows-of es);
+        field = λ j. field-of ((ap (λ s. s .places) (counted-at slots k amount within j) ∙ places-stay amount (eqb j k) (getD slots j empty-slot)) i);
+      })
+      (λ l. refl) (λ q b. refl)
+      (λ j. ap (λ s. s .counter .value) (counted-at slots k amount within j) ∙ value-counted amount (eqb j k) (getD slots j empty-slot))
+      (λ j. ap (λ s. s .counter .held) (counted-at slots k amount within j) ∙ held-stays amount (eqb j k) (getD slots j empty-slot))
