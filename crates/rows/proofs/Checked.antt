@@ -20,7 +20,7 @@ use Rattle.rows.specs.declared.fault.TableFault.the-variants.{TooManyRows, Par
 use Rattle.rows.specs.declared.row.Row.{Row}
 use Rattle.rows.specs.declared.slot.Places.{Places}
 use Rattle.rows.specs.declared.slot.ShortPlace.{ShortPlace}
-use Rattle.rows.specs.declared.slot.Slot.{Slot}
+use Rattle.rows.specs.declared.slot.CounterSlot.{CounterSlot}
 
 -- ---- the order of rows
 
@@ -62,7 +62,7 @@ places-push (a ∷ rows) row k =
     ap (joined (place-in a k)) (places-push rows row k) ∙ sym (joined-assoc (place-in a k) (places-of rows k) (place-in row k))
 
 -- slots that hold the places of rows
-pub places-at : (rows : List Row) (slots : List Slot) → Slots-of rows slots → places-in slots ≡ places-of rows
+pub places-at : (rows : List Row) (slots : List CounterSlot) → Slots-of rows slots → places-in slots ≡ places-of rows
 places-at rows slots holds = λ i k. holds .1 k i .places
 
 -- ---- the walks
@@ -88,7 +88,7 @@ passed-fits earlier row passes =
     let span : span-fits row ≡ true = grind (arith, tells) in let number : number-fits row ≡ true = grind (arith, tells) in (span, number)
 
 -- the slots of one row more
-pub slots-more : (rows : List Row) (i : ℕ) (d : Row) (before after : List Slot) → i < length rows → Slots-of (take i rows) before → Joins (getD rows i d) before after
+pub slots-more : (rows : List Row) (i : ℕ) (d : Row) (before after : List CounterSlot) → i < length rows → Slots-of (take i rows) before → Joins (getD rows i d) before after
     → Slots-of (take (i + 1) rows) after
 slots-more rows i d before after within holds joins = (
   joins .0 ∙ holds .0,
@@ -107,7 +107,7 @@ unfolding fault-of
 fault-of-rows rows f few found = cc
 
 -- what the second walk finds by the slots of rows that all pass
-pub fault-by-slots : (rows : List Row) (slots : List Slot) (f : Option FaultAt) → false ≡ ltb 64 (length rows) → (first-fault [] rows ≡ None) × Slots-of rows slots
+pub fault-by-slots : (rows : List Row) (slots : List CounterSlot) (f : Option FaultAt) → false ≡ ltb 64 (length rows) → (first-fault [] rows ≡ None) × Slots-of rows slots
     → f ≡ first-partnerless (places-in slots) 0 rows → fault-of rows ≡ f
 unfolding fault-of
 fault-by-slots rows slots f few placed found =

@@ -22,7 +22,7 @@ use Rattle.rows.specs.declared.row.Content.the-variants.{Fixed, Follower, Latc
 use Rattle.rows.specs.declared.row.Row.{Row}
 use Rattle.rows.specs.declared.slot.Places.{Places}
 use Rattle.rows.specs.declared.slot.ShortPlace.{ShortPlace}
-use Rattle.rows.specs.declared.slot.Slot.{Slot}
+use Rattle.rows.specs.declared.slot.CounterSlot.{CounterSlot}
 
 -- ---- where the rows place a counter
 
@@ -146,26 +146,26 @@ fault-of rows =
     (or-else (first-fault [] rows) (first-partnerless (places-of rows) 0 rows))
 
 -- where slots place the counters
-abbrev pub places-in : List Slot → ℕ → Places
+abbrev pub places-in : List CounterSlot → ℕ → Places
 places-in slots k = getD slots k empty-slot .places
 
 -- the counters of a table that has just been filled
-abbrev pub Slots-of : List Row → List Slot → Type 0
+abbrev pub Slots-of : List Row → List CounterSlot → Type 0
 Slots-of rows slots = (length slots ≡ 16) × ((k : ℕ) → getD slots k empty-slot ≡ record { places = places-of rows k; counter = record { value = 0; held = 0 } })
 
 -- the counters with the places of one row more
-abbrev pub with-place : Slot → Places → Slot
+abbrev pub with-place : CounterSlot → Places → CounterSlot
 with-place s p = record { places = joined (s .places) p; counter = s .counter }
 
-abbrev pub Joins : Row → List Slot → List Slot → Type 0
+abbrev pub Joins : Row → List CounterSlot → List CounterSlot → Type 0
 Joins row before after =
     (length after ≡ length before) × ((k : ℕ) → getD after k empty-slot ≡ with-place (getD before k empty-slot) (place-in row k))
 
 -- what the check of rows one after another gives, and what the whole check gives
-abbrev pub Placed : List Row → Result (List Slot) FaultAt → Type 0
+abbrev pub Placed : List Row → Result (List CounterSlot) FaultAt → Type 0
 Placed rows (Ok slots) = (first-fault [] rows ≡ None) × Slots-of rows slots
 Placed rows (Err f) = first-fault [] rows ≡ Some f
 
-abbrev pub Checked : List Row → Result (List Slot) FaultAt → Type 0
+abbrev pub Checked : List Row → Result (List CounterSlot) FaultAt → Type 0
 Checked rows (Ok slots) = (fault-of rows ≡ None) × Slots-of rows slots
 Checked rows (Err f) = fault-of rows ≡ Some f

@@ -10,13 +10,13 @@ use Rattle.mmd.specs.Events.{clears, holds}
 use Rattle.mmd.specs.declared.counter.Counter.{Counter}
 use Rattle.rows.specs.declared.slot.Places.{Places}
 use Rattle.rows.specs.declared.slot.ShortPlace.{ShortPlace}
-use Rattle.rows.specs.declared.slot.Slot.{Slot}
+use Rattle.rows.specs.declared.slot.CounterSlot.{CounterSlot}
 
 abbrev pub nowhere : Places
 nowhere = record { short = None; high = None; low = None }
 
 -- a counter that no row names
-abbrev pub empty-slot : Slot
+abbrev pub empty-slot : CounterSlot
 empty-slot = record { places = nowhere; counter = record { value = 0; held = 0 } }
 
 -- the field of a counter that these rows name: a short field, or a half of each sort

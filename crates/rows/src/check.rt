@@ -11,9 +11,9 @@ use crate::fault::FaultAt;
 use crate::fault::TableFault;
 use crate::row::Content;
 use crate::row::Row;
+use crate::slot::CounterSlot;
 use crate::slot::Places;
 use crate::slot::ShortPlace;
-use crate::slot::Slot;
 use crate::slot::slot_of;
 
 const MOST_ROWS: usize = 64;
@@ -104,7 +104,7 @@ fn follows(earlier: &[Row], row: &Row) -> bool
 }
 
 // The counter has a field, and the row is not its missing half.
-fn is_taken(slots: &[Slot], row: &Row) -> bool
+fn is_taken(slots: &[CounterSlot], row: &Row) -> bool
     ensures { λ r. ⌜ r ≡ taken-as (content-of (now (row .entry))) (places-in (now (slots .entry))) ⌝ }
 {
     match row.content() {
@@ -125,7 +125,7 @@ fn is_taken(slots: &[Slot], row: &Row) -> bool
 }
 
 // The row is a half whose other half is in no row.
-fn is_partnerless(slots: &[Slot], row: &Row) -> bool
+fn is_partnerless(slots: &[CounterSlot], row: &Row) -> bool
     ensures { λ r. ⌜ r ≡ partnerless-as (content-of (now (row .entry))) (places-in (now (slots .entry))) ⌝ }
 {
     match row.content() {
@@ -136,7 +136,7 @@ fn is_partnerless(slots: &[Slot], row: &Row) -> bool
 }
 
 // The first rule that a row breaks, behind the earlier rows and the counters that they place.
-fn row_fault(earlier: &[Row], slots: &[Slot], row: &Row) -> Option<TableFault>
+fn row_fault(earlier: &[Row], slots: &[CounterSlot], row: &Row) -> Option<TableFault>
     requires { ⌜ Slots-of (now earlier) (now slots) ⌝ }
     ensures { λ r. ⌜ r ≡ row-fault (now (earlier .entry)) (now (row .entry)) ⌝ }
 {
@@ -156,19 +156,19 @@ fn row_fault(earlier: &[Row], slots: &[Slot], row: &Row) -> Option<TableFault>
 }
 
 // The slot of a counter's number has one place more.
-fn add_place(slots: &mut [Slot], number: u16, place: Places)
+fn add_place(slots: &mut [CounterSlot], number: u16, place: Places)
     requires { ⌜ number < length (now slots) ⌝ }
     ensures { λ _. ⌜ now (slots .exit) ≡ set (now (slots .entry)) number (with-place (getD (now (slots .entry)) number empty-slot) place) ⌝ }
 {
     let slot = slots[usize::from(number)];
-    slots[usize::from(number)] = Slot {
+    slots[usize::from(number)] = CounterSlot {
         places: slot.places.joined(place),
         counter: slot.counter,
     };
 }
 
 // The slots with the place that a row gives its counter, if it has one.
-fn note(slots: &mut [Slot], row: &Row)
+fn note(slots: &mut [CounterSlot], row: &Row)
     requires { ⌜ length (now slots) ≡ 16 ⌝ ∗ ⌜ now row .low ≤ now row .high ⌝ ∗ ⌜ now row .high ≤ 15 ⌝ ∗ ⌜ number-fits (now row) ≡ true ⌝ }
     ensures { λ _. ⌜ Joins (now (row .entry)) (now (slots .entry)) (now (slots .exit)) ⌝ }
 {
@@ -196,10 +196,10 @@ fn note(slots: &mut [Slot], row: &Row)
 }
 
 // The counters that the rows place, or the first row that breaks a rule of its own.
-fn place_all(rows: &[Row]) -> Result<[Slot; COUNTERS], FaultAt>
+fn place_all(rows: &[Row]) -> Result<[CounterSlot; COUNTERS], FaultAt>
     ensures { λ r. ⌜ Placed (now (rows .entry)) r ⌝ }
 {
-    let mut slots = [Slot::EMPTY; COUNTERS];
+    let mut slots = [CounterSlot::EMPTY; COUNTERS];
     for (place, row) in rows.iter().enumerate() {
         if let Some(fault) = row_fault(&rows[..place], &slots, row) {
             return Err(FaultAt { fault, place });
@@ -210,7 +210,7 @@ fn place_all(rows: &[Row]) -> Result<[Slot; COUNTERS], FaultAt>
 }
 
 // The first row that is a half whose other half is in no row.
-fn first_partnerless(rows: &[Row], slots: &[Slot]) -> Option<FaultAt>
+fn first_partnerless(rows: &[Row], slots: &[CounterSlot]) -> Option<FaultAt>
     ensures { λ r. ⌜ r ≡ first-partnerless (places-in (now (slots .entry))) 0 (now (rows .entry)) ⌝ }
 {
     for (place, row) in rows.iter().enumerate() {
@@ -225,7 +225,7 @@ fn first_partnerless(rows: &[Row], slots: &[Slot]) -> Option<FaultAt>
 }
 
 // The counters of a table of rows, or what is wrong with it.
-pub fn check(rows: &[Row]) -> Result<[Slot; COUNTERS], FaultAt>
+pub fn check(rows: &[Row]) -> Result<[CounterSlot; COUNTERS], FaultAt>
     ensures { λ r. ⌜ Checked (now (rows .entry)) r ⌝ }
 {
     if too_many(rows) {

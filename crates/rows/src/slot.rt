@@ -1,4 +1,4 @@
-// A counter of a table: where its field stands, and how far it has counted.
+// The slot of a counter: where its field stands, and how far it has counted.
 ghost use mathlib.Core.Path.{_≡_};
 ghost use lib.ListN.{getD};
 ghost use Rattle.rows.specs.Checks.{joined};
@@ -41,25 +41,25 @@ impl Places {
 }
 
 #[derive(Clone, Copy)]
-pub struct Slot {
+pub struct CounterSlot {
     pub places: Places,
     pub counter: Counter,
 }
 
-impl Slot {
+impl CounterSlot {
     // A counter that no row names.
-    pub const EMPTY: Slot = Slot {
+    pub const EMPTY: CounterSlot = CounterSlot {
         places: Places::NOWHERE,
         counter: Counter::ZERO,
     };
 }
 
 // The slot of a counter's number; it is empty for one that is none of the table's.
-pub fn slot_of(slots: &[Slot], number: u16) -> Slot
+pub fn slot_of(slots: &[CounterSlot], number: u16) -> CounterSlot
     ensures { λ r. ⌜ r ≡ getD (now (slots .entry)) number empty-slot ⌝ }
 {
     match slots.get(usize::from(number)) {
         Some(slot) => *slot,
-        None => Slot::EMPTY,
+        None => CounterSlot::EMPTY,
     }
 }

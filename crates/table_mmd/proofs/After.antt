@@ -21,12 +21,12 @@ use Rattle.table_mmd.specs.Counts.{slot-read, slot-counted, slot-reset}
 use Rattle.rows.specs.Slots.{empty-slot, field-of}
 use Rattle.table_mmd.specs.Tables.{stored-of, table-meaning}
 use Rattle.table_mmd.specs.declared.entry.Entry.{Entry}
-use Rattle.rows.specs.declared.slot.Slot.{Slot}
+use Rattle.rows.specs.declared.slot.CounterSlot.{CounterSlot}
 use Rattle.table_mmd.proofs.Places.{Fits, relatch-acts, write-acts, line-acts, finish-acts, reset-acts}
 use Rattle.table_mmd.proofs.Stored.{Acts, getD-map, rows-stay, stored-after}
 
 -- one counter of them counted
-counted-at : (slots : List Slot) (k amount : ℕ) → k < length slots → (j : ℕ)
+counted-at : (slots : List CounterSlot) (k amount : ℕ) → k < length slots → (j : ℕ)
     → getD (set slots k (slot-counted amount (getD slots k empty-slot))) j empty-slot ≡ cond (eqb j k) (slot-counted amount (getD slots j empty-slot)) (getD slots j empty-slot)
 counted-at slots k amount within j =
     ⊎-elim
@@ -38,20 +38,20 @@ counted-at slots k amount within j =
     (λ ne. getD-set-other slots k j _ empty-slot ne ∙ sym (cond-false (eqb j k) _ _ (ne-eqb j k ne)))
     (cases-eq j k)
 
-places-stay : (amount : ℕ) (c : Bool) (s : Slot) → cond c (slot-counted amount s) s .places ≡ s .places
+places-stay : (amount : ℕ) (c : Bool) (s : CounterSlot) → cond c (slot-counted amount s) s .places ≡ s .places
 places-stay amount true s = refl
 places-stay amount false s = refl
 
-value-counted : (amount : ℕ) (c : Bool) (s : Slot) → cond c (slot-counted amount s) s .counter .value ≡ cond c (min (top (field-of (s .places))) (s .counter .value + amount)) (s .counter .value)
+value-counted : (amount : ℕ) (c : Bool) (s : CounterSlot) → cond c (slot-counted amount s) s .counter .value ≡ cond c (min (top (field-of (s .places))) (s .counter .value + amount)) (s .counter .value)
 value-counted amount true s = refl
 value-counted amount false s = refl
 
-held-stays : (amount : ℕ) (c : Bool) (s : Slot) → cond c (slot-counted amount s) s .counter .held ≡ s .counter .held
+held-stays : (amount : ℕ) (c : Bool) (s : CounterSlot) → cond c (slot-counted amount s) s .counter .held ≡ s .counter .held
 held-stays amount true s = refl
 held-stays amount false s = refl
 
 -- what the table means once its rows are changed so, place by place, and its counters so
-after-change : List Entry → ℕ → List Slot → (ℕ → ℕ → Cell → Bool → Bool) → (Slot → Slot) → Meaning
+after-change : List Entry → ℕ → List CounterSlot → (ℕ → ℕ → Cell → Bool → Bool) → (CounterSlot → CounterSlot) → Meaning
 after-change es lines slots g h =
     record {
       layout = record { cell = cell-of (rows-of es); field = λ k. field-of (h (getD slots k empty-slot) .places) };
@@ -61,7 +61,7 @@ after-change es lines slots g h =
       held = λ k. h (getD slots k empty-slot) .counter .held;
     }
 
-module _ (es : List Entry) (fit : All Fits es) (lines : ℕ) (slots : List Slot) where
+module _ (es : List Entry) (fit : All Fits es) (lines : ℕ) (slots : List CounterSlot) where
   rows-changed : {f : Entry → Entry} {g : ℕ → ℕ → Cell → Bool → Bool} → Acts Fits f g → table-meaning (map f es) lines slots ≡ after-change es lines slots g (λ s. s)
   unfolding table-meaning after-change
   rows-changed {f} acts = λ i.
@@ -73,7 +73,7 @@ module _ (es : List Entry) (fit : All Fits es) (lines : ℕ) (slots : List Slot)
         held = λ k. getD slots k empty-slot .counter .held;
       }
 
-  both-changed : {f : Entry → Entry} {g : ℕ → ℕ → Cell → Bool → Bool} (h : Slot → Slot) → Acts Fits f g → h empty-slot ≡ empty-slot
+  both-changed : {f : Entry → Entry} {g : ℕ → ℕ → Cell → Bool → Bool} (h : CounterSlot → CounterSlot) → Acts Fits f g → h empty-slot ≡ empty-slot
       → table-meaning (map f es) lines (map h slots) ≡ after-change es lines slots g h
   unfolding table-meaning after-change
   both-changed {f} h acts none = λ i.

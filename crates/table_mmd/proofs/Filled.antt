@@ -24,7 +24,7 @@ use Rattle.rows.specs.Orders.{rising}
 use Rattle.table_mmd.specs.Tables.{Laid, table-meaning}
 use Rattle.table_mmd.specs.declared.entry.Entry.{Entry}
 use Rattle.rows.specs.declared.row.Row.{Row}
-use Rattle.rows.specs.declared.slot.Slot.{Slot}
+use Rattle.rows.specs.declared.slot.CounterSlot.{CounterSlot}
 use Rattle.rows.proofs.Passing.{passing-fits, passing-narrow, passing-rises, passing-sound}
 use Rattle.table_mmd.proofs.Places.{Fits, reset-acts}
 use Rattle.table_mmd.proofs.Stored.{stored-after}
@@ -48,7 +48,7 @@ rows-of-new : (rows : List Row) → rows-of (map new-entry rows) ≡ rows
 rows-of-new [] = refl
 rows-of-new (row ∷ rows) = ap (λ rest. row ∷ rest) (rows-of-new rows)
 
-pub new-means : (rows : List Row) (slots : List Slot) → All (λ row. span-fits row ≡ true) rows → Slots-of rows slots → table-meaning (map new-entry rows) 0 slots ≡ new-meaning (layout-of rows)
+pub new-means : (rows : List Row) (slots : List CounterSlot) → All (λ row. span-fits row ≡ true) rows → Slots-of rows slots → table-meaning (map new-entry rows) 0 slots ≡ new-meaning (layout-of rows)
 unfolding table-meaning new-meaning layout-of
 new-means rows slots fit placed =
     ap (λ es. table-meaning es 0 slots) (new-from-bare rows)
@@ -66,7 +66,7 @@ new-means rows slots fit placed =
       held = λ k. placed .1 k i .counter .held;
     })
 
-narrow-from : (slots : List Slot) → ((k : ℕ) → narrow-short (getD slots k empty-slot .places .short) ≡ true) → all-narrow slots ≡ true
+narrow-from : (slots : List CounterSlot) → ((k : ℕ) → narrow-short (getD slots k empty-slot .places .short) ≡ true) → all-narrow slots ≡ true
 narrow-from [] each = refl
 narrow-from (s ∷ ss) each = and-from _ _ (each zero) (narrow-from ss (λ k. each (suc k)))
 
@@ -74,7 +74,7 @@ fit-from : (rows : List Row) → All (λ row. span-fits row ≡ true) rows → r
 fit-from [] fit = refl
 fit-from (row ∷ rows) fit = and-from _ _ (fit .0) (fit-from rows (fit .1))
 
-pub new-laid : (rows : List Row) (slots : List Slot) → fault-of rows ≡ None → Slots-of rows slots → Laid (map new-entry rows) 0 slots
+pub new-laid : (rows : List Row) (slots : List CounterSlot) → fault-of rows ≡ None → Slots-of rows slots → Laid (map new-entry rows) 0 slots
 new-laid rows slots pass placed =
     record {
       fits = ap rows-fit (rows-of-new rows) ∙ fit-from rows (passing-fits rows pass);

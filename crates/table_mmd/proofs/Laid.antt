@@ -24,7 +24,7 @@ use Rattle.rows.specs.Orders.{rising}
 use Rattle.table_mmd.specs.Tables.{Laid, table-meaning}
 use Rattle.table_mmd.specs.declared.entry.Entry.{Entry}
 use Rattle.rows.specs.declared.row.Row.{Row}
-use Rattle.rows.specs.declared.slot.Slot.{Slot}
+use Rattle.rows.specs.declared.slot.CounterSlot.{CounterSlot}
 use Rattle.table_mmd.proofs.After.{read-means, write-means, line-means, count-means, finish-means, reset-means}
 use Rattle.rows.proofs.Disjoint.{rising-apart}
 use Rattle.table_mmd.proofs.Places.{Fits, relatch-acts, write-acts, line-acts, finish-acts, reset-acts}
@@ -40,7 +40,7 @@ rows-all : (rows : List Row) → rows-fit rows ≡ true → All (λ row. span-fi
 rows-all [] fit = tt
 rows-all (row ∷ rows) fit = let parts = and-parts _ _ fit in (parts .0, rows-all rows (parts .1))
 
-module _ {es : List Entry} {lines : ℕ} {slots : List Slot} (laid : ∥ Laid es lines slots ∥₁) where
+module _ {es : List Entry} {lines : ℕ} {slots : List CounterSlot} (laid : ∥ Laid es lines slots ∥₁) where
   pub fits-of : all-fit es ≡ true
   fits-of = ∥∥₁-elim laid (Bool-set _ _) (λ l. l .fits)
 
@@ -63,35 +63,35 @@ module _ {es : List Entry} {lines : ℕ} {slots : List Slot} (laid : ∥ Laid es
   pub keeps-of : Keeps (table-meaning es lines slots)
   keeps-of = ∥∥₁-elim laid (keeps-unique _) (λ l. l .keeps)
 
-pub narrow-at : (slots : List Slot) (k : ℕ) → all-narrow slots ≡ true → narrow-short (getD slots k empty-slot .places .short) ≡ true
+pub narrow-at : (slots : List CounterSlot) (k : ℕ) → all-narrow slots ≡ true → narrow-short (getD slots k empty-slot .places .short) ≡ true
 narrow-at [] k narrow = refl
 narrow-at (s ∷ ss) zero narrow = and-parts _ _ narrow .0
 narrow-at (s ∷ ss) (suc k) narrow = narrow-at ss k (and-parts _ _ narrow .1)
 
 -- the invariant of the rows and counters that equal these
-pub laid-as : (lines : ℕ) {es es′ : List Entry} {slots slots′ : List Slot} → es′ ≡ es → slots′ ≡ slots → ∥ Laid es lines slots ∥₁ → ∥ Laid es′ lines slots′ ∥₁
+pub laid-as : (lines : ℕ) {es es′ : List Entry} {slots slots′ : List CounterSlot} → es′ ≡ es → slots′ ≡ slots → ∥ Laid es lines slots ∥₁ → ∥ Laid es′ lines slots′ ∥₁
 laid-as lines {es} {es′} {slots} {slots′} rows counters laid =
     subst (λ l. ∥ Laid l lines slots′ ∥₁) (sym rows) (subst (λ l. ∥ Laid es lines l ∥₁) (sym counters) laid)
 
 -- a change that may be asked of every counter
-pub any-slot : (slots : List Slot) → All (λ _. Unit {0}) slots
+pub any-slot : (slots : List CounterSlot) → All (λ _. Unit {0}) slots
 any-slot [] = tt
 any-slot (s ∷ ss) = (tt, any-slot ss)
 
 -- ---- what each call leaves
 
-narrow-map : (f : Slot → Slot) → ((s : Slot) → f s .places ≡ s .places) → (slots : List Slot) → all-narrow (map f slots) ≡ all-narrow slots
+narrow-map : (f : CounterSlot → CounterSlot) → ((s : CounterSlot) → f s .places ≡ s .places) → (slots : List CounterSlot) → all-narrow (map f slots) ≡ all-narrow slots
 narrow-map f same [] = refl
 narrow-map f same (s ∷ ss) = ap₂ (λ p rest. narrow-short (p .short) && rest) (same s) (narrow-map f same ss)
 
-narrow-set : (slots : List Slot) (k : ℕ) (s : Slot) → s .places ≡ getD slots k empty-slot .places → all-narrow slots ≡ true → all-narrow (set slots k s) ≡ true
+narrow-set : (slots : List CounterSlot) (k : ℕ) (s : CounterSlot) → s .places ≡ getD slots k empty-slot .places → all-narrow slots ≡ true → all-narrow (set slots k s) ≡ true
 narrow-set [] k s same narrow = refl
 narrow-set (x ∷ xs) zero s same narrow = ap (λ p. narrow-short (p .short) && all-narrow xs) same ∙ narrow
 narrow-set (x ∷ xs) (suc k) s same narrow =
     let parts = and-parts _ _ narrow in and-from _ _ (parts .0) (narrow-set xs k s same (parts .1))
 
 -- the same rows, and counters where they were
-kept-so : (es es′ : List Entry) (lines lines′ : ℕ) (slots slots′ : List Slot) (m : Meaning) → rows-of es′ ≡ rows-of es → all-narrow slots′ ≡ true → length slots′ ≡ length slots
+kept-so : (es es′ : List Entry) (lines lines′ : ℕ) (slots slots′ : List CounterSlot) (m : Meaning) → rows-of es′ ≡ rows-of es → all-narrow slots′ ≡ true → length slots′ ≡ length slots
     → table-meaning es′ lines′ slots′ ≡ m → Keeps m → Laid es lines slots → Laid es′ lines′ slots′
 kept-so es es′ lines lines′ slots slots′ m rows narrow long means keeps laid =
     record {
@@ -102,7 +102,7 @@ kept-so es es′ lines lines′ slots slots′ m rows narrow long means keeps la
       keeps = subst Keeps (sym means) keeps;
     }
 
-module _ (es : List Entry) (lines : ℕ) (slots : List Slot) (laid : Laid es lines slots) where
+module _ (es : List Entry) (lines : ℕ) (slots : List CounterSlot) (laid : Laid es lines slots) where
   fit : All Fits es
   fit = all-fits es (laid .fits)
 

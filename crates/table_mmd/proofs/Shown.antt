@@ -18,10 +18,10 @@ use Rattle.table_mmd.specs.declared.entry.Entry.{Entry}
 use Rattle.rows.specs.declared.row.Content.{Content}
 use Rattle.rows.specs.declared.row.Content.the-variants.{Fixed, Follower, LatchingHigh, LatchingLow, Setting, SelfClearing, ShortCounter, HighHalf, LowHalf, Unknown}
 use Rattle.rows.specs.declared.row.Row.{Row}
-use Rattle.rows.specs.declared.slot.Slot.{Slot}
+use Rattle.rows.specs.declared.slot.CounterSlot.{CounterSlot}
 use Rattle.table_mmd.proofs.Walks.{or-false}
 
-module _ (all : List Entry) (lines : ℕ) (slots : List Slot) where
+module _ (all : List Entry) (lines : ℕ) (slots : List CounterSlot) where
   shows-at : (c : Content) (s p : ℕ) → shows (table-meaning all lines slots) (stored-at c s p) (cell-at c p) ≡ shown-at lines slots c s p
   unfolding table-meaning
   shows-at (Fixed v) s p = refl
@@ -54,7 +54,7 @@ module _ (all : List Entry) (lines : ℕ) (slots : List Slot) where
       (shown-together es r b (apart .1))
 
 -- so a word with these bits is the word that a read returns
-pub read-word-is : (es : List Entry) (lines : ℕ) (slots : List Slot) (r word : ℕ) → Pairwise Apart (rows-of es) → word < 65536
+pub read-word-is : (es : List Entry) (lines : ℕ) (slots : List CounterSlot) (r word : ℕ) → Pairwise Apart (rows-of es) → word < 65536
     → Has-bits (any-shows lines slots r es) word → word ≡ read-word (table-meaning es lines slots) r
 unfolding read-word shown table-meaning
 read-word-is es lines slots r word apart small bits =

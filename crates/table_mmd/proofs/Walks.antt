@@ -13,7 +13,7 @@ use Rattle.table_mmd.specs.Entries.{Has-bits, all-fit, any-shows, row-shows}
 use Rattle.rows.specs.Rows.{span-fits}
 use Rattle.rows.proofs.Spans.{zero-row}
 use Rattle.table_mmd.specs.declared.entry.Entry.{Entry}
-use Rattle.rows.specs.declared.slot.Slot.{Slot}
+use Rattle.rows.specs.declared.slot.CounterSlot.{CounterSlot}
 
 -- the rows from place i on are as they were
 pub not-yet-changed : {X : Type 0} (f : X → X) (xs ys : List X) (i : ℕ) (d : X) → i < length xs → ys ≡ map f (take i xs) ++ drop i xs → getD ys i d ≡ getD xs i d
@@ -45,13 +45,13 @@ pub or-false : (a : Bool) → (a || false) ≡ a
 or-false true = refl
 or-false false = refl
 
-any-shows-push : (lines : ℕ) (slots : List Slot) (r : ℕ) (es : List Entry) (e : Entry) (b : ℕ) → any-shows lines slots r (es ++ (e ∷ [])) b ≡ (any-shows lines slots r es b || row-shows lines slots r e b)
+any-shows-push : (lines : ℕ) (slots : List CounterSlot) (r : ℕ) (es : List Entry) (e : Entry) (b : ℕ) → any-shows lines slots r (es ++ (e ∷ [])) b ≡ (any-shows lines slots r es b || row-shows lines slots r e b)
 any-shows-push lines slots r [] e b = or-false (row-shows lines slots r e b)
 any-shows-push lines slots r (x ∷ es) e b =
     ap (λ t. row-shows lines slots r x b || t) (any-shows-push lines slots r es e b)
     ∙ sym (or-assoc (row-shows lines slots r x b) (any-shows lines slots r es b) (row-shows lines slots r e b))
 
-pub any-shows-more : (lines : ℕ) (slots : List Slot) (r : ℕ) (es : List Entry) (i : ℕ) (d : Entry) (word more : ℕ) → i < length es
+pub any-shows-more : (lines : ℕ) (slots : List CounterSlot) (r : ℕ) (es : List Entry) (i : ℕ) (d : Entry) (word more : ℕ) → i < length es
     → Has-bits (any-shows lines slots r (take i es)) word → Has-bits (row-shows lines slots r (getD es i d)) more
     → Has-bits (any-shows lines slots r (take (i + 1) es)) (bitOr word more)
 any-shows-more lines slots r es i d word more within so-far here b =

@@ -12,7 +12,7 @@ use Rattle.table_mmd.specs.declared.entry.Entry.{Entry}
 use Rattle.rows.specs.declared.row.Row.{Row}
 use Rattle.rows.specs.declared.row.Content.{Content}
 use Rattle.rows.specs.declared.row.Content.the-variants.{Fixed, Follower, LatchingHigh, LatchingLow, Setting, SelfClearing, ShortCounter, HighHalf, LowHalf, Unknown}
-use Rattle.rows.specs.declared.slot.Slot.{Slot}
+use Rattle.rows.specs.declared.slot.CounterSlot.{CounterSlot}
 
 -- latches, settings and self-clearing bits store their state
 abbrev pub stored-at : Content → ℕ → ℕ → Bool
@@ -28,7 +28,7 @@ stored-at (LowHalf k) s p = false
 stored-at Unknown s p = false
 
 -- what is shown at a place, under these lines and counters
-abbrev pub shown-at : ℕ → List Slot → Content → ℕ → ℕ → Bool
+abbrev pub shown-at : ℕ → List CounterSlot → Content → ℕ → ℕ → Bool
 shown-at lines slots (Fixed v) s p = bit v p
 shown-at lines slots (Follower l) s p = bit lines l
 shown-at lines slots (LatchingHigh l) s p = bit s p
@@ -45,12 +45,12 @@ abbrev pub Shows-value : (ℕ → Bool) → ℕ → Type 0
 Shows-value f r = (p : ℕ) → p < 16 → bit r p ≡ f p
 
 -- whether a row shows a one at a register and bit
-abbrev pub row-shows : ℕ → List Slot → ℕ → Entry → ℕ → Bool
+abbrev pub row-shows : ℕ → List CounterSlot → ℕ → Entry → ℕ → Bool
 row-shows lines slots r e b =
     covers (e .row) r b && shown-at lines slots (content-of (e .row)) (e .state) (b - e .row .low)
 
 -- whether any row does
-abbrev pub any-shows : ℕ → List Slot → ℕ → List Entry → ℕ → Bool
+abbrev pub any-shows : ℕ → List CounterSlot → ℕ → List Entry → ℕ → Bool
 any-shows lines slots r [] b = false
 any-shows lines slots r (e ∷ es) b = row-shows lines slots r e b || any-shows lines slots r es b
 

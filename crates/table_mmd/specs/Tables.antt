@@ -13,14 +13,14 @@ use Rattle.rows.specs.Rows.{cell-of, content-of, covers}
 use Rattle.table_mmd.specs.Counts.{all-narrow}
 use Rattle.rows.specs.Slots.{empty-slot, field-of}
 use Rattle.table_mmd.specs.declared.entry.Entry.{Entry}
-use Rattle.rows.specs.declared.slot.Slot.{Slot}
+use Rattle.rows.specs.declared.slot.CounterSlot.{CounterSlot}
 
 -- the state at a register and bit: that of the first row that covers it
 abbrev pub stored-of : List Entry → ℕ → ℕ → Bool
 stored-of [] r b = false
 stored-of (e ∷ es) r b = cond (covers (e .row) r b) (stored-at (content-of (e .row)) (e .state) (b - e .row .low)) (stored-of es r b)
 
-unfoldable pub table-meaning : List Entry → ℕ → List Slot → Meaning
+unfoldable pub table-meaning : List Entry → ℕ → List CounterSlot → Meaning
 table-meaning es lines slots =
     record {
       layout = record { cell = cell-of (rows-of es); field = λ k. field-of (getD slots k empty-slot .places) };
@@ -31,7 +31,7 @@ table-meaning es lines slots =
     }
 
 -- what a table keeps at all times
-pub record Laid (es : List Entry) (lines : ℕ) (slots : List Slot) : Type 0 where
+pub record Laid (es : List Entry) (lines : ℕ) (slots : List CounterSlot) : Type 0 where
   pub fits : all-fit es ≡ true
   pub rises : rising (rows-of es) ≡ true
   pub narrow : all-narrow slots ≡ true

@@ -11,10 +11,10 @@ use crate::walk::Change;
 use bits::is_one;
 use bits::sixteen;
 use rows::row::Content;
-use rows::slot::Slot;
+use rows::slot::CounterSlot;
 
 // What the rows show of a register; its latches then equal their lines.
-pub fn read_all(entries: &mut [Entry], register: u16, lines: u32, slots: &[Slot]) -> u16
+pub fn read_all(entries: &mut [Entry], register: u16, lines: u32, slots: &[CounterSlot]) -> u16
     requires { ⌜ all-fit (now entries) ≡ true ⌝ }
     ensures shown { λ r. ⌜ Has-bits (any-shows lines (now (slots .entry)) register (now (entries .entry))) r ⌝ }
     ensures after { λ _. ⌜ now (entries .exit) ≡ map (relatch lines register) (now (entries .entry)) ⌝ }

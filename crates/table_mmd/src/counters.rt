@@ -8,14 +8,14 @@ ghost use Rattle.std.specs.declared.option.Option.the-variants.{Some, None};
 ghost use Rattle.table_mmd.specs.Counts.{slot-counted, slot-read, slot-reset};
 use crate::walk::Change;
 use mmd::counter::Counter;
+use rows::slot::CounterSlot;
 use rows::slot::Places;
-use rows::slot::Slot;
 use rows::slot::slot_of;
 
 const LONG_TOP: u32 = 0xffff_ffff;
 
 // The slot with some events more, if the counter has a field.
-pub fn counted(slot: Slot, amount: u16) -> Option<Slot>
+pub fn counted(slot: CounterSlot, amount: u16) -> Option<CounterSlot>
     requires { ⌜ narrow-short (slot .places .short) ≡ true ⌝ }
     ensures { λ r. ⌜ r ≡ cond (has-field (field-of (slot .places))) (Some (slot-counted amount slot)) None ⌝ }
 {
@@ -25,14 +25,14 @@ pub fn counted(slot: Slot, amount: u16) -> Option<Slot>
         (None, Some(_), Some(_)) => LONG_TOP,
         _ => return None,
     };
-    Some(Slot {
+    Some(CounterSlot {
         places: slot.places,
         counter: slot.counter.add(amount, top),
     })
 }
 
 // The counter of a number; one that is none of the table's counts nothing.
-pub fn counter_of(slots: &[Slot], number: u16) -> Counter
+pub fn counter_of(slots: &[CounterSlot], number: u16) -> Counter
     ensures { λ r. ⌜ r ≡ getD (now (slots .entry)) number empty-slot .counter ⌝ }
 {
     slot_of(slots, number).counter
@@ -44,19 +44,19 @@ pub struct ReadAt {
     pub register: u16,
 }
 
-pub impl Change<Slot> for ReadAt as ReadAtChange {
+pub impl Change<CounterSlot> for ReadAt as ReadAtChange {
     ghost can = { λ _. Unit {0} };
 
     ghost changed = { λ c s. slot-read (c .register) s };
 
-    fn apply(&self, slot: Slot) -> Slot {
+    fn apply(&self, slot: CounterSlot) -> CounterSlot {
         let Places { short, high, low } = slot.places;
         let counter = match (short, high, low) {
             (Some(place), _, _) if place.register == self.register => slot.counter.clear(),
             (None, Some(high), Some(_)) if high == self.register => slot.counter.hold(),
             _ => slot.counter,
         };
-        Slot {
+        CounterSlot {
             places: slot.places,
             counter,
         }
@@ -67,13 +67,13 @@ pub impl Change<Slot> for ReadAt as ReadAtChange {
 #[derive(Clone, Copy)]
 pub struct ResetCounter;
 
-pub impl Change<Slot> for ResetCounter as ResetCounterChange {
+pub impl Change<CounterSlot> for ResetCounter as ResetCounterChange {
     ghost can = { λ _. Unit {0} };
 
     ghost changed = { λ _ s. slot-reset s };
 
-    fn apply(&self, slot: Slot) -> Slot {
-        Slot {
+    fn apply(&self, slot: CounterSlot) -> CounterSlot {
+        CounterSlot {
             places: slot.places,
             counter: Counter::ZERO,
         }

@@ -13,7 +13,7 @@ use bits::low_half;
 use bits::sixteen;
 use rows::row::Content;
 use rows::row::Row;
-use rows::slot::Slot;
+use rows::slot::CounterSlot;
 
 #[derive(Clone, Copy)]
 pub struct Entry {
@@ -33,7 +33,7 @@ impl Entry {
     }
 
     // What the row shows, from its lowest bit at place 0.
-    fn value(&self, lines: u32, slots: &[Slot]) -> u16
+    fn value(&self, lines: u32, slots: &[CounterSlot]) -> u16
         ensures { λ r. ⌜ Shows-value (shown-at lines (now (slots .entry)) (content-of (now (self .entry) .row)) (now (self .entry) .state)) r ⌝ }
     {
         match self.row.content() {
@@ -51,7 +51,7 @@ impl Entry {
     }
 
     // What the row shows of a register, in its span, and zeros beside it; zero for another register.
-    pub fn shown(&self, register: u16, lines: u32, slots: &[Slot]) -> u16
+    pub fn shown(&self, register: u16, lines: u32, slots: &[CounterSlot]) -> u16
         requires { ⌜ span-fits (now self .row) ≡ true ⌝ }
         ensures { λ r. ⌜ Has-bits (row-shows lines (now (slots .entry)) register (now (self .entry))) r ⌝ }
     {

@@ -1,0 +1,15 @@
+use mathlib.Core.Path.{sym, _∙_}
+use Rattle.bank.specs.Slots.{is-at}
+use Rattle.bank.proofs.Sides.{found-left, found-right}
+use Rattle.bank.proofs.pair.PairBank.find.Needs as need
+
+pub returns-in-Some : need.returns-in-Some
+returns-in-Some g c =
+    let p = c .args .self .now in
+    found-left (is-at (c .args .port) (c .args .device)) (g .L·Bank .slots (p .left)) (g .R·Bank .slots (p .right)) (c .in-Some .slot) (sym (c .in-Some .ensures tt))
+
+pub returns : need.returns
+returns g c =
+    let p = c .args .self .now in
+    c .behind .ensures
+    ∙ found-right (is-at (c .args .port) (c .args .device)) (g .L·Bank .slots (p .left)) (g .R·Bank .slots (p .right)) (c .count .result) (c .find-2 .result) (sym (c .in-rest .ensures tt)) (c .count .ensures) (c .find-2 .ensures)

@@ -1,0 +1,3 @@
+pub mod Banks
+pub mod Deeds
+pub mod Slots
