@@ -7,6 +7,7 @@ use crate::bank::Bank;
 use crate::deed::Deed;
 use crate::deed::Done;
 
+#[derive(Drop)]
 pub struct Pair<L, R> {
     pub left: L,
     pub right: R,

@@ -9,6 +9,7 @@ use crate::deed::Done;
 use mmd::mmd::Mmd;
 use mmd::refusal::MmdRefusal;
 
+#[derive(Drop)]
 pub struct Slot<M> {
     pub(crate) port: u8,
     pub(crate) device: u8,
