@@ -1,7 +1,7 @@
 -- Two banks side by side: what is found, and what a deed does, on either side.
 use Rattle.std.proofs.Common.{◌≡◌, ℕ, zero, suc, ◌+◌, ◌-◌, ◌<◌, ◌≤◌, min, Bool, true, false, cond, List, [], ◌∷◌, ◌++◌, length, Some, None, Option, sym, refl, ap, ◌∙◌, ap₂, arith}
 use Rattle.std.proofs.lemmas.Bool.Decides.{nat_tests}
-use Rattle.bank.specs.Deeds.{after_at, after_deed, done_at}
+use Rattle.bank.specs.Deeds.{after_at, done_at}
 use Rattle.bank.specs.Slots.{SlotMeaning, beside, earliest, next_place, numbered}
 use Rattle.bank.specs.declared.deed.Deed.{Deed}
 

@@ -1,5 +1,4 @@
 -- What a slot of the code means.
-use Rattle.std.specs.Prelude.{List, [], ◌∷◌}
 use Rattle.mmd.specs.Meaning.{Meaning}
 use Rattle.bank.specs.Slots.{SlotMeaning}
 use Rattle.bank.specs.declared.slot.Slot.{Slot}

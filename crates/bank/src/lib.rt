@@ -1,4 +1,6 @@
 // Banks of MMDs: one slot, or two banks side by side, of whatever kinds.
+#![tactic(auto)]
+
 pub mod bank;
 pub mod deed;
 pub mod pair;

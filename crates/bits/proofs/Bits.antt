@@ -1,5 +1,5 @@
 -- The laws of `bit` and `gathered`.
-use Rattle.std.proofs.Common.{◌≡◌, ℕ, zero, suc, ◌+◌, ◌-◌, ◌*◌, ◌/◌, ◌%◌, ◌^◌, ◌<◌, ◌≤◌, min, max, Bool, true, false, cond, not, ◌&&◌, ◌||◌, eqb, ltb, leb, sym, refl, ap, ◌∙◌, subst, ap₂, ⊎_elim, lt_of_lt_of_le, mod-eq_of_lt, mul_assoc, one-mul, pow-suc, zero-mul, one-add, arith, pow_mono}
+use Rattle.std.proofs.Common.{◌≡◌, ℕ, zero, suc, ◌+◌, ◌-◌, ◌*◌, ◌/◌, ◌%◌, ◌^◌, ◌<◌, ◌≤◌, Bool, true, false, cond, not, ◌&&◌, ◌||◌, eqb, ltb, sym, refl, ap, ◌∙◌, ap₂, ⊎_elim, lt_of_lt_of_le, mod-eq_of_lt, mul_assoc, one-mul, pow-suc, zero-mul, one-add, arith, pow_mono}
 use native.Mathlib.Nat.{zero-div, div-eq_of_lt, mul-mod_left, mod-one}
 use lib.Bits.{bit_and, bit_or, bit_xor, differ, and_step, or_step, xor_step}
 use Rattle.std.proofs.lemmas.Nat.{and_shr, or_shr, xor_shr, shr-shr, shl-shr, pow-add, mod-pow-add, or_shifted, pow_below}

@@ -1,4 +1,6 @@
 // Single bits of a word.
+#![tactic(auto)]
+
 ghost use Rattle.std.specs.Prelude.{◌≡◌, ◌/◌, ◌%◌, if◌then◌else◌};
 ghost use Rattle.bits.specs.Bits.{bit, SetsBit};
 

@@ -1,4 +1,6 @@
 // A bus over a pair of pairs of FEC MMDs: what frames, register accesses and events are answered, a line for each.
+#![tactic(auto)]
+
 mod told;
 
 use bank::bank::Bank;

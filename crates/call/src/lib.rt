@@ -1,3 +1,5 @@
 // The calls of a station and their answers.
+#![tactic(auto)]
+
 pub mod answer;
 pub mod call;

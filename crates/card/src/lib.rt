@@ -1,2 +1,4 @@
 // The ring card: its bank of MMDs and its watch list.
+#![tactic(auto)]
+
 pub mod card;

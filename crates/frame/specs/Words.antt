@@ -2,7 +2,7 @@
 --
 --   31:30  29:28  27:23  22:18  17:16  15:0
 --   ST     OP     PRTAD  DEVAD  TA     ADDRESS or DATA
-use Rattle.std.specs.Prelude.{ℕ, ◌+◌, ◌-◌, ◌*◌, ◌/◌, ◌%◌, ◌^◌, ◌<◌, ◌≤◌, Bool, true, false, cond, not, ◌&&◌, Ok, Err, Result, ◌==◌, nat_le, nat_lt}
+use Rattle.std.specs.Prelude.{ℕ, ◌+◌, ◌*◌, ◌/◌, ◌%◌, ◌^◌, Bool, cond, not, ◌&&◌, Ok, Err, Result, ◌==◌, nat_le, nat_lt}
 use Rattle.frame.specs.declared.frame.Frame.{Frame}
 use Rattle.frame.specs.declared.frame.Operation.{Operation}
 use Rattle.frame.specs.declared.frame.Operation.TheVariants.{Address, Write, Read, PostReadIncrement}

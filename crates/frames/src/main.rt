@@ -1,5 +1,7 @@
 // Frame words from standard input, one a line, replayed on the card's bank: for each a line that says it in plain words,
 // and one with the bus's answer.
+#![tactic(auto)]
+
 mod listing;
 mod scan;
 mod show;

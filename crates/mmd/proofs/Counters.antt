@@ -1,7 +1,7 @@
 -- What each call does to a counter, and what its bits show.
-use Rattle.std.proofs.Common.{◌≡◌, ℕ, ◌+◌, ◌-◌, ◌/◌, ◌%◌, ◌^◌, ◌<◌, ◌≤◌, min, Bool, true, false, cond, eqb, sym, refl, ap, ◌∙◌, mod-eq_of_lt, arith}
+use Rattle.std.proofs.Common.{◌≡◌, ℕ, ◌+◌, ◌-◌, ◌/◌, ◌%◌, ◌^◌, ◌<◌, ◌≤◌, min, Bool, cond, eqb, refl, ◌∙◌, arith}
 use Rattle.std.proofs.lemmas.Bool.Decides.{nat_tests}
-use Rattle.bits.specs.Bits.{bit, gathered}
+use Rattle.bits.specs.Bits.{bit}
 use Rattle.bits.proofs.Bits.{gathered_alike, gathered_own, bit_shr}
 use Rattle.mmd.specs.Cells.{short_field, long_field}
 use Rattle.mmd.specs.Events.{after_read, after_write, after_line, after_count, after_finish, after_reset}

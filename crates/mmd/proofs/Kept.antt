@@ -1,8 +1,7 @@
 -- Every call leaves what every MMD keeps, and a new MMD keeps it.
-use Rattle.std.proofs.Common.{◌≡◌, ℕ, ◌+◌, ◌<◌, ◌≤◌, min, Bool, true, false, cond, eqb, sym, refl, ap, ◌∙◌, arith}
+use Rattle.std.proofs.Common.{ℕ, Bool, refl, arith}
 use Rattle.std.proofs.lemmas.Bool.Decides.{nat_tests}
-use Rattle.mmd.specs.Cells.{latch, Field, no_field, short_field, long_field, top}
-use Rattle.mmd.specs.Events.{after_read, after_write, after_line, after_count, after_finish, after_reset, clears, holds}
+use Rattle.mmd.specs.Events.{after_read, after_write, after_line, after_count, after_finish, after_reset}
 use Rattle.mmd.specs.Invariant.{Keeps, Settled, Sound}
 use Rattle.mmd.specs.Meaning.{Layout, Meaning, new_meaning}
 

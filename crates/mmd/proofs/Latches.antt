@@ -1,5 +1,5 @@
 -- What each call does to a latching bit and to the lines: a layer above goes by these laws and not by the definitions.
-use Rattle.std.proofs.Common.{◌≡◌, ℕ, ◌<◌, Bool, true, false, cond, ◌&&◌, eqb, ltb, refl, arith}
+use Rattle.std.proofs.Common.{◌≡◌, ℕ, Bool, cond, ◌&&◌, eqb, ltb, refl, arith}
 use Rattle.std.proofs.lemmas.Bool.Decides.{nat_tests}
 use Rattle.mmd.specs.Cells.{latch}
 use Rattle.mmd.specs.Events.{after_read, after_write, after_line, after_count, after_finish, after_reset, same}

@@ -1,10 +1,10 @@
 -- What every MMD keeps has one proof at most, so that it can stand in a type as an invariant.
-use Rattle.std.proofs.Common.{◌≡◌, ℕ}
+use Rattle.std.proofs.Common.{ℕ}
 use mathlib.Core.Bool.{Bool-set}
 use mathlib.Core.HLevel.{⊥_prop, ×₃_prop}
 use native.Mathlib.Nat.{ℕ_set}
 use native.Mathlib.Bridge.{le_prop}
-use Rattle.mmd.specs.Cells.{Cell, Cell_set, Field, no_field, short_field, long_field}
+use Rattle.mmd.specs.Cells.{Cell_set, Field, no_field, short_field, long_field}
 use Rattle.mmd.specs.Invariant.{ShortAt, HighAt, LowAt, Sound, Keeps}
 use Rattle.mmd.specs.Meaning.{Layout, Meaning}
 

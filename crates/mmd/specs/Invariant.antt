@@ -1,6 +1,6 @@
 -- What every MMD keeps at all times, and when it is settled.
 use Rattle.std.specs.Prelude.{◌≡◌, ℕ, ◌+◌, ◌<◌, ◌≤◌, Bool}
-use Rattle.mmd.specs.Cells.{latch, follower, short, high_half, low_half, Field, no_field, short_field, long_field, top}
+use Rattle.mmd.specs.Cells.{latch, short, high_half, low_half, Field, no_field, short_field, long_field, top}
 use Rattle.mmd.specs.Meaning.{Layout, Meaning}
 
 -- register r, bit b is place p of a short counter's field

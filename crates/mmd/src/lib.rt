@@ -1,4 +1,6 @@
 // What an MMD is: the register meaning of IEEE 802.3 Clause 45, which every kind of MMD keeps.
+#![tactic(auto)]
+
 pub mod counter;
 pub mod mmd;
 pub mod refusal;

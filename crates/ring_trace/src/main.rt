@@ -1,7 +1,8 @@
 // A trace of calls from standard input, replayed on the ring card: an answer line for each record.
+#![tactic(auto)]
+
 use anyhow::anyhow;
 use card::card::{WATCH_LIST, card_bank};
-use mmd::mmd::Mmd;
 use station::station::Station;
 use std::io::{Read, Write};
 use trace::part::{Part, replay_part};

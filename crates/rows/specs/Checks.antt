@@ -11,7 +11,6 @@ use Rattle.rows.specs.declared.row.Content.{Content}
 use Rattle.rows.specs.declared.row.Content.TheVariants.{Fixed, Follower, LatchingHigh, LatchingLow, Setting, SelfClearing, ShortCounter, HighHalf, LowHalf, Unknown}
 use Rattle.rows.specs.declared.row.Row.{Row}
 use Rattle.rows.specs.declared.slot.Places.{Places}
-use Rattle.rows.specs.declared.slot.ShortPlace.{ShortPlace}
 use Rattle.rows.specs.declared.slot.CounterSlot.{CounterSlot}
 
 -- ---- where the rows place a counter

@@ -1,8 +1,6 @@
 -- The counters of a table: where the rows place them, and what each call does to them.
-use Rattle.std.specs.Prelude.{ℕ, ◌+◌, min, Bool, true, false, cond, ◌&&◌, List, [], ◌∷◌, Some, None, Option, nat_le}
-use Rattle.mmd.specs.Cells.{Field, no_field, short_field, long_field, top, has_field}
-use Rattle.mmd.specs.Events.{clears, holds}
-use Rattle.mmd.specs.declared.counter.Counter.{Counter}
+use Rattle.std.specs.Prelude.{ℕ, Bool, true, Some, None, Option, nat_le}
+use Rattle.mmd.specs.Cells.{Field, no_field, short_field, long_field}
 use Rattle.rows.specs.declared.slot.Places.{Places}
 use Rattle.rows.specs.declared.slot.ShortPlace.{ShortPlace}
 use Rattle.rows.specs.declared.slot.CounterSlot.{CounterSlot}

@@ -1,4 +1,6 @@
 // Rows of a register layout, and the check that they form one.
+#![tactic(auto)]
+
 pub mod check;
 pub mod fault;
 pub mod row;

@@ -1,4 +1,6 @@
 // A station over any bank: its set-up, its seven calls, and runs of them.
+#![tactic(auto)]
+
 pub mod calls;
 pub mod dispatch;
 mod event;

@@ -1,4 +1,6 @@
 // Tables of rows that are filled or refused, and what filled ones show: a line for each.
+#![tactic(auto)]
+
 use mmd::mmd::Mmd;
 use rows::row::Row;
 use std::alloc::{AllocError, Global};

@@ -1,15 +1,14 @@
 -- A table that has just been filled: nothing has happened to it, and it keeps what every table keeps.
-use Rattle.std.proofs.Common.{◌≡◌, ℕ, zero, suc, Bool, true, false, ◌&&◌, List, [], ◌∷◌, map, length, get_or, None, sym, refl, ap, ◌∙◌, subst, arith}
+use Rattle.std.proofs.Common.{◌≡◌, ℕ, zero, suc, true, false, List, [], ◌∷◌, map, get_or, None, sym, refl, ap, ◌∙◌, subst}
 use mathlib.Core.Path.{fun_ext}
 use Rattle.std.specs.List.{AllByRecursion as All}
 use Rattle.std.proofs.lemmas.Bool.{and_from}
-use Rattle.bits.specs.Bits.{bit}
 use Rattle.bits.proofs.Bits.{bit_zero}
 use Rattle.mmd.specs.Meaning.{default_state, new_meaning}
 use Rattle.mmd.specs.Invariant.{Keeps}
 use Rattle.mmd.proofs.Kept.{new_keeps}
 use Rattle.table_mmd.specs.Changes.{reset_row}
-use Rattle.rows.specs.Checks.{SlotsOf, fault_of, layout_of, places_of}
+use Rattle.rows.specs.Checks.{SlotsOf, fault_of, layout_of}
 use Rattle.table_mmd.specs.Entries.{rows_fit, rows_of}
 use Rattle.table_mmd.specs.Fills.{new_entry}
 use Rattle.rows.specs.Rows.{cell_of, span_fits}

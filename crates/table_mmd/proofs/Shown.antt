@@ -1,12 +1,12 @@
 -- What the rows show together is what the table's meaning shows, where no two rows share a bit.
-use Rattle.std.proofs.Common.{◌≡◌, ℕ, ◌-◌, ◌%◌, ◌^◌, ◌<◌, Bool, true, false, cond, ◌&&◌, ◌||◌, List, [], ◌∷◌, map, sym, refl, ap, ◌∙◌, mod-eq_of_lt}
+use Rattle.std.proofs.Common.{◌≡◌, ℕ, ◌-◌, ◌<◌, Bool, true, false, cond, ◌&&◌, ◌||◌, List, [], ◌∷◌, sym, refl, ap, ◌∙◌, mod-eq_of_lt}
 use Rattle.std.specs.List.{AllByRecursion as All}
 use Rattle.std.proofs.lemmas.Bool.{and_left, or_from}
-use Rattle.bits.specs.Bits.{bit, gathered}
+use Rattle.bits.specs.Bits.{bit}
 use Rattle.bits.proofs.Bits.{gathered_alike, gathered_own}
-use Rattle.mmd.specs.Cells.{Cell, blank}
+use Rattle.mmd.specs.Cells.{Cell}
 use Rattle.mmd.specs.Meaning.{shows, shown, read_word}
-use Rattle.table_mmd.specs.Entries.{HasBits, any_shows, row_shows, rows_of, shown_at, stored_at}
+use Rattle.table_mmd.specs.Entries.{HasBits, any_shows, rows_of, shown_at, stored_at}
 use Rattle.rows.specs.Layouts.{Apart, Pairwise}
 use Rattle.rows.specs.Rows.{cell_at, cell_of, content_of, covers}
 use Rattle.table_mmd.specs.Tables.{stored_of, table_meaning}

@@ -1,5 +1,5 @@
 -- The rows of a table after a walk over the slice that its vector lends.
-use Rattle.std.proofs.Common.{◌≡◌, List, map, length, vec_items, Vec, sym, ap, ◌∙◌, arith}
+use Rattle.std.proofs.Common.{◌≡◌, List, map, length, vec_items, Vec, ap, ◌∙◌, arith}
 use Rattle.std.proofs.lemmas.List.{length-map, with_items_is}
 use Rattle.std.specs.Vec.{with_items}
 use Rattle.std.specs.declared.alloc.Global.{Global}

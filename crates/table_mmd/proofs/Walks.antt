@@ -1,5 +1,5 @@
 -- A walk over the rows that changes each: what it has left and what it finds.
-use Rattle.std.proofs.Common.{◌≡◌, ℕ, zero, suc, ◌+◌, ◌-◌, ◌<◌, ◌≤◌, Bool, true, false, ◌&&◌, ◌||◌, List, [], ◌∷◌, ◌++◌, map, length, get_or, take, drop, sym, refl, ap, ◌∙◌, ap₂, append-nil, arith, length-take}
+use Rattle.std.proofs.Common.{◌≡◌, ℕ, zero, suc, ◌+◌, ◌-◌, ◌<◌, ◌≤◌, Bool, true, false, ◌||◌, List, [], ◌∷◌, ◌++◌, map, length, get_or, take, drop, sym, refl, ap, ◌∙◌, ap₂, append-nil, arith, length-take}
 use Rattle.std.proofs.lemmas.List.{get_or-append_right, get_or-drop, length-map, take_all, drop_all, take_more}
 use Rattle.std.proofs.lemmas.Bool.{and_parts}
 use lib.Bits.{bit_or}

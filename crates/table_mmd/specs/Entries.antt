@@ -1,5 +1,5 @@
 -- A row with its state: what it stores and shows in its span, place by place from its lowest bit.
-use Rattle.std.specs.Prelude.{◌≡◌, ℕ, ◌+◌, ◌-◌, ◌<◌, Bool, true, false, cond, ◌&&◌, ◌||◌, List, [], ◌∷◌, map, slice_index_or}
+use Rattle.std.specs.Prelude.{◌≡◌, ℕ, ◌+◌, ◌-◌, ◌<◌, Bool, true, false, ◌&&◌, ◌||◌, List, [], ◌∷◌, map, slice_index_or}
 use Rattle.bits.specs.Bits.{bit}
 use Rattle.rows.specs.Rows.{content_of, covers, span_fits}
 use Rattle.rows.specs.Slots.{empty_slot}

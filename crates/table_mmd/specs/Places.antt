@@ -1,16 +1,15 @@
 -- What each call does to the state at one place of a row is what it does to the cell there.
-use Rattle.std.specs.Prelude.{◌≡◌, ℕ, ◌+◌, ◌-◌, ◌/◌, ◌^◌, ◌<◌, ◌≤◌, Bool, true, false, cond, not, ◌&&◌, ◌||◌, ◌==◌, refl}
-use Rattle.std.proofs.Common.{sym, ap, ◌∙◌, arith}
-use Rattle.std.specs.Int.Bits.{bit_or}
+use Rattle.std.specs.Prelude.{◌≡◌, ℕ, ◌-◌, ◌/◌, ◌^◌, ◌<◌, ◌≤◌, Bool, true, false, cond, ◌&&◌, ◌==◌, refl}
+use Rattle.std.proofs.Common.{ap, ◌∙◌, arith}
 use Rattle.std.proofs.lemmas.Bool.Decides.{nat_tests}
 use Rattle.bits.specs.Bits.{bit}
 use Rattle.bits.proofs.Bits.{bit_of_or, bit_shr, bit_sixteen, bit_zero}
-use Rattle.mmd.specs.Cells.{Cell, blank, is_self_clearing}
+use Rattle.mmd.specs.Cells.{is_self_clearing}
 use Rattle.mmd.specs.Events.{relatched, written, moved}
 use Rattle.mmd.specs.Meaning.{default_state}
 use Rattle.table_mmd.specs.Changes.{relatch, relatched_state, write_row, written_state, move_line, moved_state, finish_bit, finished_state, reset_row, reset_state}
 use Rattle.table_mmd.specs.Entries.{stored_at}
-use Rattle.rows.specs.Rows.{cell_at, content_of, covers, one_bit, span_fits}
+use Rattle.rows.specs.Rows.{cell_at, content_of, one_bit, span_fits}
 use Rattle.table_mmd.specs.declared.entry.Entry.{Entry}
 use Rattle.rows.specs.declared.row.Content.{Content}
 use Rattle.rows.specs.declared.row.Content.TheVariants.{Fixed, Follower, LatchingHigh, LatchingLow, Setting, SelfClearing, ShortCounter, HighHalf, LowHalf, Unknown}

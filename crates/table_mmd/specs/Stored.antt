@@ -7,7 +7,6 @@ use Rattle.table_mmd.specs.Entries.{rows_of, stored_at}
 use Rattle.rows.specs.Rows.{cell_at, cell_of, content_of, covers}
 use Rattle.table_mmd.specs.Tables.{stored_of}
 use Rattle.table_mmd.specs.declared.entry.Entry.{Entry}
-use Rattle.rows.specs.declared.row.Row.{Row}
 
 -- a map that leaves the default alone can be looked up through
 pub get_d_map : {X : Type 0} (f : X → X) (d : X) → f d ≡ d → (xs : List X) (k : ℕ) → slice_index_or (map f xs) k d ≡ f (slice_index_or xs k d)

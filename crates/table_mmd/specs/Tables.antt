@@ -2,7 +2,7 @@
 use Rattle.std.specs.Prelude.{◌≡◌, ℕ, ◌-◌, Bool, true, false, cond, List, [], ◌∷◌, length, slice_index_or}
 use Rattle.bits.specs.Bits.{bit}
 use Rattle.mmd.specs.Invariant.{Keeps}
-use Rattle.mmd.specs.Meaning.{Layout, Meaning}
+use Rattle.mmd.specs.Meaning.{Meaning}
 use Rattle.table_mmd.specs.Entries.{all_fit, rows_of, stored_at}
 use Rattle.rows.specs.Orders.{rising}
 use Rattle.rows.specs.Rows.{cell_of, content_of, covers}

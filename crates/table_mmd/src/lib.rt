@@ -1,4 +1,6 @@
 // An MMD that is filled from rows, and keeps the register meaning for every layout that they can give.
+#![tactic(auto)]
+
 pub mod calls;
 mod change;
 mod counters;

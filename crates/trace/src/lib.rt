@@ -1,4 +1,6 @@
 // Traces: records of calls replayed on a station, an answer line for each.
+#![tactic(auto)]
+
 pub mod part;
 pub mod read;
 pub mod replay;

@@ -1,10 +1,8 @@
 -- What becomes of an entry's eight words.
-use Rattle.std.specs.Prelude.{ℕ, ◌+◌, ◌*◌, List, map, get_or, replicate, bit_and, bit_or, slice_index_or, slice_set}
+use Rattle.std.specs.Prelude.{ℕ, ◌+◌, ◌*◌, map, get_or, replicate, bit_and, bit_or, slice_index_or, slice_set}
 use Rattle.joining.specs.Words.{latch_empty, latch_joined, latch_word, count_empty, count_joined, count_word}
 use Rattle.joining.specs.declared.latch.LatchWord.{LatchWord}
-use Rattle.joining.specs.declared.count.CountWord.{CountWord}
 use Rattle.watch_list.specs.declared.entry.LatchEntry.{LatchEntry}
-use Rattle.watch_list.specs.declared.entry.CountEntry.{CountEntry}
 use Rattle.watch_list.specs.declared.entry.Entry.{Entry}
 use Rattle.watch_list.specs.declared.entry.Entry.TheVariants.{Latch as EntryLatch, Count as EntryCount}
 use Rattle.watch_list.specs.declared.watch.Watch.{Watch}

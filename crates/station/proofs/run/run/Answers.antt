@@ -12,9 +12,9 @@ use Rattle.station.proofs.run.run.Goals as goal
 
 pub loop-call-init : goal.loop-call-init
 loop-call-init g c =
-    let empty = c.in-Ok.ensures.made in
-    let m = state_of g.B.Bank.slots c.in-ok-station.station in
-    (empty.1.0, empty.1.1, sym (ap (λ items. items ++ answers_of m c.args.calls.now) empty.0), refl)
+    let empty = c.in-Ok.ensures in
+    let m = state_of g.B.Bank.slots c.in_ok-station.station in
+    (empty.len, empty.capacity, sym (ap (λ items. items ++ answers_of m c.args.calls.now) empty.items), refl)
 
 pub push_reserved-requires : goal.push_reserved-requires
 push_reserved-requires g c = omega (arith, c.loop-call.invariant.0, c.loop-call.invariant.1, c.loop-call-test.true)
@@ -44,7 +44,7 @@ returns g c =
     let m = state_of g.B.Bank.slots c.loop-call.station in
     let inv = c.loop-call.invariant in
     let past = c.loop-call-test.false in
-    let start = c.in-ok-station.ensures in
+    let start = c.in_ok-station.ensures in
     let answered = sym (ap (λ s. answers_of s calls) (sym start.1) ∙ inv.2 ∙ answers_all m calls i past (vec_items c.loop-call.answers)) in
     let slots = g.B.Bank.slots c.args.bank in
     let entries = c.args.entries.now in

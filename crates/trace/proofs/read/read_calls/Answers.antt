@@ -7,7 +7,7 @@ use Rattle.trace.specs.Traces.{Reading, reading_of}
 use Rattle.trace.proofs.Inputs.{reading_more, reading_ends, reading_stops}
 use Rattle.trace.proofs.read.read_calls.Goals as goal
 
-took : (c : goal.In-ok-push) → Ok (Some (record { call = c.in-Some.field-0.call; rest = c.in-Some.field-0.rest.now })) ≡ decode_of c.loop-next.rest.now
+took : (c : goal.In_ok-push) → Ok (Some (record { call = c.in-Some.field-0.call; rest = c.in-Some.field-0.rest.now })) ≡ decode_of c.loop-next.rest.now
 took c = ap (λ o. decoded (Ok o)) (sym c.in-Some.is) ∙ c.in-Ok.ensures.result
 
 pub loop-next-smaller : goal.loop-next-smaller
@@ -19,7 +19,7 @@ pub loop-next-preserved : goal.loop-next-preserved
 loop-next-preserved c =
     let step = reading_more c.loop-next.rest.now (record { call = c.in-Some.field-0.call; rest = c.in-Some.field-0.rest.now }) (took c) in
     let more = reading_of c.in-Some.field-0.rest.now in
-    let pushed = c.in-ok-push.ensures.items in (
+    let pushed = c.in_ok-push.ensures.items in (
       c.loop-next.invariant.0 ∙ ap (λ (r : Reading). vec_items c.loop-next.calls ++ r.calls) step
           ∙ sym (append_assoc (vec_items c.loop-next.calls) (c.in-Some.field-0.call ∷ []) more.calls) ∙ ap (λ (l : List Call). l ++ more.calls) (sym pushed),
       c.loop-next.invariant.1 ∙ ap (λ (r : Reading). r.stop) step,

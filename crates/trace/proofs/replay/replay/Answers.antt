@@ -12,7 +12,7 @@ use Rattle.trace.proofs.replay.replay.Goals as goal
 pub write_text-requires : goal.write_text-requires
 write_text-requires g c =
     let start = set_up (g.B.Bank.slots c.args.bank) c.args.entries.now in
-    let ran = c.in-ok-station.ensures.ran in
+    let ran = c.in_ok-station.ensures.ran in
     let told : length c.as_slice-2.result.now ≡ length c.as_slice.result.now = ap length (c.as_slice-2.ensures.value ∙ ran.answered) ∙ answers_count start c.as_slice.result.now in
     let room = c.in-Ok-room.ensures.1 in
     let count = c.len.ensures in
@@ -25,10 +25,10 @@ returns g c =
     let entries = c.args.entries.now in
     let start = set_up slots entries in
     let read = reading_of c.args.input.now in
-    let ran = c.in-ok-station.ensures.ran in
+    let ran = c.in_ok-station.ensures.ran in
     let calls : c.as_slice.result.now ≡ read.calls = c.as_slice.ensures.value ∙ c.in-Ok.ensures.0 in
     let answers : c.as_slice-2.result.now ≡ answers_of start read.calls = c.as_slice-2.ensures.value ∙ ran.answered ∙ ap (answers_of start) calls in
-    let promise = c.in-ok-station.ensures.promise in
+    let promise = c.in_ok-station.ensures.promise in
     record {
       replays = record {
         passed = ran.passed;

@@ -13,20 +13,20 @@ returns-in-empty c =
     let e = ap decode_of (nil_from_length c.args.input.now none) in
     record { result = cc; laws = decoding }
 
-pub returns-in-ok-by_map : goal.returns-in-ok-by_map
+pub returns-in_ok-by_map-in-len1-up : goal.returns-in_ok-by_map-in-len1-up
 unfolding decode_of
-returns-in-ok-by_map c =
+returns-in_ok-by_map-in-len1-up c =
     let some : 1 ≤ length c.args.input.now = search rules in
     let e = ap decode_of (front 1 c.args.input.now some) in
-    let t = ap some_record c.in-ok-by_map.ensures in
+    let t = ap some_record c.in_ok-by_map-in-len1-up.ensures in
     record { result = cc; laws = decoding }
 
-pub returns-in-err-by_map : goal.returns-in-err-by_map
+pub returns-in_err-by_map-in-len1-up : goal.returns-in_err-by_map-in-len1-up
 unfolding decode_of
-returns-in-err-by_map c =
+returns-in_err-by_map-in-len1-up c =
     let some : 1 ≤ length c.args.input.now = search rules in
     let e = ap decode_of (front 1 c.args.input.now some) in
-    let t = ap some_record c.in-err-by_map.ensures in
-    let p = err_from_is_err_and c.from-residual.result c.from-residual.ensures.1 in
+    let t = ap some_record c.in_err-by_map-in-len1-up.ensures in
+    let p = err_from_is_err_and c.from_residual.result c.from_residual.ensures.1 in
     let q = ap decoded p.1 in
     record { result = cc p.2; laws = decoding }

@@ -4,39 +4,39 @@ use Rattle.bus.proofs.Reached.{read_after, read_data, read_not_refused, read_ref
 use Rattle.bus.proofs.bus.Bus.read_register.Goals as goal
 
 -- the address frame is refused
-pub returns-in-err-send : goal.returns-in-err-send
-returns-in-err-send g c =
-    let exit = err_from_is_err_and c.from-residual.result c.from-residual.ensures.1 in
-    let first = c.in-err-send.ensures in
+pub returns-in_err-send : goal.returns-in_err-send
+returns-in_err-send g c =
+    let exit = err_from_is_err_and c.from_residual.result c.from_residual.ensures.1 in
+    let first = c.in_err-send.ensures in
     let before = g.B.Bank.slots c.args.self.now.bank in
     let between = g.B.Bank.slots c.send.new.self.bank in
-    let refused = read_refused c.args.port c.args.device c.args.register before between first.slots c.in-err-send.field-0.0 first.answer in
+    let refused = read_refused c.args.port c.args.device c.args.register before between first.slots c.in_err-send.field-0.0 first.answer in
     record { answer = rw (exit.1, exit.2) refused.0; slots = refused.1; frames = rw exit.1 first.frames }
 
 -- the read frame is not, after that
-pub returns-in-err-data : goal.returns-in-err-data
-returns-in-err-data g c =
-    let first = c.in-ok-send.ensures in
-    let second = c.in-err-data.ensures in
+pub returns-in_err-data : goal.returns-in_err-data
+returns-in_err-data g c =
+    let first = c.in_ok-send.ensures in
+    let second = c.in_err-data.ensures in
     let before = g.B.Bank.slots c.args.self.now.bank in
     let between = g.B.Bank.slots c.send.new.self.bank in
-    absurd (read_not_refused c.args.port c.args.device c.args.register before between first.slots c.in-ok-send.field-0 first.answer c.in-err-data.field-0.0 second.answer)
+    absurd (read_not_refused c.args.port c.args.device c.args.register before between first.slots c.in_ok-send.field-0 first.answer c.in_err-data.field-0.0 second.answer)
 
 pub unwrap-requires : goal.unwrap-requires
 unwrap-requires g c =
-    let first = c.in-ok-send.ensures in
-    let second = c.in-ok-data.ensures in
+    let first = c.in_ok-send.ensures in
+    let second = c.in_ok-data.ensures in
     let before = g.B.Bank.slots c.args.self.now.bank in
     let between = g.B.Bank.slots c.send.new.self.bank in
-    ap is_some (read_data c.args.port c.args.device c.args.register before between first.slots c.in-ok-send.field-0 first.answer c.in-ok-data.data second.answer).1
+    ap is_some (read_data c.args.port c.args.device c.args.register before between first.slots c.in_ok-send.field-0 first.answer c.in_ok-data.data second.answer).1
 
 pub returns : goal.returns
 returns g c =
-    let first = c.in-ok-send.ensures in
-    let second = c.in-ok-data.ensures in
+    let first = c.in_ok-send.ensures in
+    let second = c.in_ok-data.ensures in
     let before = g.B.Bank.slots c.args.self.now.bank in
     let between = g.B.Bank.slots c.send.new.self.bank in
-    let answered = read_data c.args.port c.args.device c.args.register before between first.slots c.in-ok-send.field-0 first.answer c.in-ok-data.data second.answer in
+    let answered = read_data c.args.port c.args.device c.args.register before between first.slots c.in_ok-send.field-0 first.answer c.in_ok-data.data second.answer in
     let word : c.unwrap.result ≡ answered.0 = cc (c.unwrap.ensures, answered.1) in
     record {
       answer = rw word answered.2;

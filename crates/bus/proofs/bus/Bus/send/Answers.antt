@@ -14,8 +14,8 @@ returns-in-Ok g c =
     let built = c.in-Ok.ensures in
     let framed = c.frame.ensures in
     record {
-      answer = built_sent f c.in-Ok.word slots (sym built.result) built.splits-back c.frame.result c.reply.result framed.answer c.reply.ensures;
-      slots = built_after f c.in-Ok.word slots (sym built.result) built.splits-back (g.B.Bank.slots c.frame.new.self.bank) framed.slots;
+      answer = built_sent f c.in-Ok.word slots (sym built.result) built.splits_back c.frame.result c.reply.result framed.answer c.reply.ensures;
+      slots = built_after f c.in-Ok.word slots (sym built.result) built.splits_back (g.B.Bank.slots c.frame.new.self.bank) framed.slots;
       frames = framed.frames ∙ reply_counted c.args.self.now.frames c.frame.result c.reply.result c.reply.ensures framed.count_fits;
     }
 

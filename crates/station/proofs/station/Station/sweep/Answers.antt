@@ -5,7 +5,7 @@ use Rattle.watch_list.specs.Entries.{is_of}
 use Rattle.station.specs.Stations.{state_of}
 use Rattle.station.proofs.Swept.{swept_more, swept_none, swept_within}
 use Rattle.station.proofs.station.Station.sweep.Goals as goal
-use Rattle.station.proofs.station.Station.sweep.Goals.{then-is-of, else-is-of}
+use Rattle.station.proofs.station.Station.sweep.Goals.{then-is_of, else-is_of}
 
 pub loop-index-init : goal.loop-index-init
 loop-index-init g c =

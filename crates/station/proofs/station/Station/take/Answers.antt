@@ -16,16 +16,16 @@ read_entry-requires g c =
     let at = slice_get_read (vec_items s.watched) (vec_len s.watched) c.args.index w s.watched.ok.0 c.requires c.index.ensures in
     ap is_named c.entry-entry.ensures ∙ named_nth (vec_items s.watched) c.args.index w s.named at
 
-pub returns-in-err-word : goal.returns-in-err-word
-returns-in-err-word g c =
-    let exit = err_from_is_err_and c.from-residual.result c.from-residual.ensures.1 in
-    let read = c.in-err-word.ensures in
+pub returns-in_err-word : goal.returns-in_err-word
+returns-in_err-word g c =
+    let exit = err_from_is_err_and c.from_residual.result c.from_residual.ensures.1 in
+    let read = c.in_err-word.ensures in
     let s = c.args.self.now in
     let w = c.index.result.now in
     let at = slice_get_read (vec_items s.watched) (vec_len s.watched) c.args.index w s.watched.ok.0 c.requires c.index.ensures in
     let all =
     take_refused (state_of g.B.Bank.slots s) (state_of g.B.Bank.slots c.read_entry.new.self) c.args.index w at
-    c.entry-entry.result c.entry-entry.ensures read.after c.in-err-word.field-0.0 read.answer in
+    c.entry-entry.result c.entry-entry.ensures read.after c.in_err-word.field-0.0 read.answer in
     record { answer = rw (exit.1, exit.2) all.0; after = all.1 }
 
 -- the entry's words have taken the reading in, and it is the same entry
@@ -34,25 +34,25 @@ invariant_of-self g c =
     let s = c.args.self.now in
     let after = c.read_entry.new.self in
     let w = c.index.result.now in
-    let w₁ = c.index-mut.result.now in
+    let w₁ = c.index_mut.result.now in
     let at = slice_get_read (vec_items s.watched) (vec_len s.watched) c.args.index w s.watched.ok.0 c.requires c.index.ensures in
     let there =
     still_there (state_of g.B.Bank.slots s) (state_of g.B.Bank.slots after) c.args.index w at
-    c.entry-entry.result c.entry-entry.ensures c.in-ok-word.ensures.after w₁ c.index-mut.ensures.value in
+    c.entry-entry.result c.entry-entry.ensures c.in_ok-word.ensures.after w₁ c.index_mut.ensures.value in
     let same : is_named (entry_of c.take_in.new.self) ≡ true =
-    ap (λ x. is_named (entry_of x)) c.take_in.ensures ∙ ap is_named (entry_of_taken_in c.in-ok-word.word c.in-ok-word.low w₁)
+    ap (λ x. is_named (entry_of x)) c.take_in.ensures ∙ ap is_named (entry_of_taken_in c.in_ok-word.word c.in_ok-word.low w₁)
     ∙ named_nth (vec_items after.watched) c.args.index w₁ after.named there in
-    (after.counted, (named_set (vec_items after.watched) c.args.index c.take_in.new.self after.named same, tt))
+    record { counted = after.counted; named = named_set (vec_items after.watched) c.args.index c.take_in.new.self after.named same }
 
 pub returns : goal.returns
 returns g c =
     let s = c.args.self.now in
     let after = c.read_entry.new.self in
     let w = c.index.result.now in
-    let w₁ = c.index-mut.result.now in
-    let read = c.in-ok-word.ensures in
+    let w₁ = c.index_mut.result.now in
+    let read = c.in_ok-word.ensures in
     let at = slice_get_read (vec_items s.watched) (vec_len s.watched) c.args.index w s.watched.ok.0 c.requires c.index.ensures in
     let all =
     take_granted (state_of g.B.Bank.slots s) (state_of g.B.Bank.slots after) c.args.index w at c.entry-entry.result c.entry-entry.ensures
-    read.after c.in-ok-word.word c.in-ok-word.low w₁ c.take_in.new.self c.index-mut.ensures.value c.take_in.ensures read.answer in
+    read.after c.in_ok-word.word c.in_ok-word.low w₁ c.take_in.new.self c.index_mut.ensures.value c.take_in.ensures read.answer in
     record { answer = all.0; after = all.1 }

@@ -31,7 +31,7 @@ invariant_of-self c =
     let within : k < length t.slots = let long = slots_of t.laid in omega arith in
     let told = c.in-Some.ensures in
     let counted : c.in-Some.slot ≡ slot_counted c.args.amount (get_or t.slots k empty_slot) = grind (arith, nat_tests) in
-    (subst (λ s. ∥ Laid (vec_items t.entries) t.lines (set t.slots k s) ∥₁) (sym counted) (∥∥₁_map t.laid (λ laid. count_laid _ _ _ laid k c.args.amount within)), tt)
+    record { laid = subst (λ s. ∥ Laid (vec_items t.entries) t.lines (set t.slots k s) ∥₁) (sym counted) (∥∥₁_map t.laid (λ laid. count_laid _ _ _ laid k c.args.amount within)) }
 
 pub returns-in-Some : goal.returns-in-Some
 unfolding count_answer table_meaning

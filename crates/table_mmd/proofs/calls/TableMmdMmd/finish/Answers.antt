@@ -1,4 +1,4 @@
-use Rattle.std.proofs.Common.{◌≡◌, cond, Ok, Err, vec_items, sym, refl, ap, ◌∙◌, subst, ap₂}
+use Rattle.std.proofs.Common.{cond, Ok, Err, vec_items, sym, refl, ap, ◌∙◌, subst}
 use mathlib.Core.Logic.{∥∥₁_map}
 use Rattle.std.specs.List.{AllByRecursion as All}
 use Rattle.table_mmd.specs.Changes.{finish_bit}
@@ -27,7 +27,7 @@ pub invariant_of-self : goal.invariant_of-self
 invariant_of-self c =
     let t = c.args.self.now in
     let rows = walked t.entries (finish_bit c.args.register c.args.bit) _ _ c.as_mut_slice.ensures.value c.change_all.ensures in
-    (subst (λ es. ∥ Laid es t.lines t.slots ∥₁) (sym rows) (∥∥₁_map t.laid (λ laid. finish_laid _ _ _ laid c.args.register c.args.bit)), tt)
+    record { laid = subst (λ es. ∥ Laid es t.lines t.slots ∥₁) (sym rows) (∥∥₁_map t.laid (λ laid. finish_laid _ _ _ laid c.args.register c.args.bit)) }
 
 pub returns : goal.returns
 unfolding finish_answer table_meaning

@@ -1,4 +1,4 @@
-use Rattle.std.proofs.Common.{◌≡◌, vec_items, sym, refl, ap, ◌∙◌, subst, ap₂, arith}
+use Rattle.std.proofs.Common.{vec_items, sym, ap, ◌∙◌, subst, arith}
 use mathlib.Core.Logic.{∥∥₁_map}
 use Rattle.std.specs.List.{AllByRecursion as All}
 use Rattle.table_mmd.specs.Changes.{move_line}
@@ -16,7 +16,7 @@ pub invariant_of-self : goal.invariant_of-self
 invariant_of-self c =
     let t = c.args.self.now in
     let rows = walked t.entries (move_line c.args.number c.args.up) _ _ c.as_mut_slice.ensures.value c.change_all.ensures in
-    (subst (λ es. ∥ Laid es c.with_bit-self.result t.slots ∥₁) (sym rows) (∥∥₁_map t.laid (λ laid. line_laid _ _ _ laid c.args.number c.args.up c.with_bit-self.result (omega arith) c.with_bit-self.ensures)), tt)
+    record { laid = subst (λ es. ∥ Laid es c.with_bit-self.result t.slots ∥₁) (sym rows) (∥∥₁_map t.laid (λ laid. line_laid _ _ _ laid c.args.number c.args.up c.with_bit-self.result (omega arith) c.with_bit-self.ensures)) }
 
 pub returns-then-number-lt32 : goal.returns-then-number-lt32
 returns-then-number-lt32 c =

@@ -1,11 +1,9 @@
-use Rattle.std.proofs.Common.{◌≡◌, vec_items, sym, refl, ap, ◌∙◌, subst, ap₂, arith}
+use Rattle.std.proofs.Common.{vec_items, ap, ◌∙◌, subst, ap₂}
 use mathlib.Core.Logic.{∥∥₁_map}
-use Rattle.std.specs.List.{AllByRecursion as All}
 use Rattle.table_mmd.specs.Changes.{relatch}
-use Rattle.table_mmd.specs.Tables.{Laid, table_meaning}
+use Rattle.table_mmd.specs.Tables.{table_meaning}
 use Rattle.table_mmd.specs.After.{read_means}
 use Rattle.table_mmd.specs.Laid.{all_fits_of, any_slot, apart_of, fits_of, laid_as, read_laid}
-use Rattle.table_mmd.specs.Places.{Fits}
 use Rattle.table_mmd.proofs.Walked.{walked}
 use Rattle.table_mmd.specs.Entries.{HasBits, all_fit, any_shows}
 use Rattle.table_mmd.proofs.Shown.{read_word_is}
@@ -21,7 +19,7 @@ pub invariant_of-self : goal.invariant_of-self
 invariant_of-self c =
     let t = c.args.self.now in
     let rows = walked t.entries (relatch t.lines c.args.register) _ _ c.as_mut_slice.ensures.value c.read_all-word.ensures.after in
-    (laid_as t.lines rows c.change_all.ensures (∥∥₁_map t.laid (λ laid. read_laid _ _ _ laid c.args.register)), tt)
+    record { laid = laid_as t.lines rows c.change_all.ensures (∥∥₁_map t.laid (λ laid. read_laid _ _ _ laid c.args.register)) }
 
 pub returns : goal.returns
 returns c =

@@ -1,8 +1,8 @@
-use Rattle.std.proofs.Common.{◌≡◌, vec_items, sym, refl, ap, ◌∙◌, subst, ap₂, arith}
+use Rattle.std.proofs.Common.{vec_items, sym, ◌∙◌, subst, ap₂}
 use mathlib.Core.Logic.{∥∥₁_map}
 use Rattle.std.specs.List.{AllByRecursion as All}
 use Rattle.table_mmd.specs.Changes.{reset_row}
-use Rattle.table_mmd.specs.Tables.{Laid, table_meaning}
+use Rattle.table_mmd.specs.Tables.{table_meaning}
 use Rattle.table_mmd.specs.After.{reset_means}
 use Rattle.table_mmd.specs.Laid.{all_fits_of, any_slot, laid_as, reset_laid}
 use Rattle.table_mmd.specs.Places.{Fits}
@@ -19,7 +19,7 @@ pub invariant_of-self : goal.invariant_of-self
 invariant_of-self c =
     let t = c.args.self.now in
     let rows = walked t.entries (reset_row t.lines) _ _ c.as_mut_slice.ensures.value c.change_all.ensures in
-    (laid_as t.lines rows c.change_all-2.ensures (∥∥₁_map t.laid (λ laid. reset_laid _ _ _ laid)), tt)
+    record { laid = laid_as t.lines rows c.change_all-2.ensures (∥∥₁_map t.laid (λ laid. reset_laid _ _ _ laid)) }
 
 pub returns : goal.returns
 returns c =

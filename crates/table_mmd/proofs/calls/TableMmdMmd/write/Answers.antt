@@ -1,6 +1,5 @@
-use Rattle.std.proofs.Common.{◌≡◌, true, cond, vec_items, sym, refl, ap, ◌∙◌, subst, ap₂, arith}
+use Rattle.std.proofs.Common.{vec_items, sym, ap, ◌∙◌, subst}
 use mathlib.Core.Logic.{∥∥₁_map}
-use Rattle.std.proofs.lemmas.Bool.Decides.{nat_tests}
 use Rattle.std.specs.List.{AllByRecursion as All}
 use Rattle.table_mmd.specs.Changes.{write_row}
 use Rattle.table_mmd.specs.Tables.{Laid, table_meaning}
@@ -17,7 +16,7 @@ pub invariant_of-self : goal.invariant_of-self
 invariant_of-self c =
     let t = c.args.self.now in
     let rows = walked t.entries (write_row c.args.register c.args.word) _ _ c.as_mut_slice.ensures.value c.change_all.ensures in
-    (subst (λ es. ∥ Laid es t.lines t.slots ∥₁) (sym rows) (∥∥₁_map t.laid (λ laid. write_laid _ _ _ laid c.args.register c.args.word)), tt)
+    record { laid = subst (λ es. ∥ Laid es t.lines t.slots ∥₁) (sym rows) (∥∥₁_map t.laid (λ laid. write_laid _ _ _ laid c.args.register c.args.word)) }
 
 pub returns : goal.returns
 returns c =
