@@ -3,20 +3,20 @@
 #
 #     audit/compare.sh [PROGRAM [SEEDS [LENGTH]]]
 #
-# PROGRAM is target/bin/ring_trace of the repository if none is given. SEEDS traces (1000) are made, of LENGTH records
+# PROGRAM is crates/ring_trace/out/ring_trace of the repository if none is given. SEEDS traces (1000) are made, of LENGTH records
 # (15000) where the sort of trace does not say otherwise, and one of ten million records. It stops at the first
 # difference, with status 1.
 set -euo pipefail
 export LC_ALL=C
 
 audit=$(cd "$(dirname "${BASH_SOURCE[0]}")" && pwd)
-program=${1:-$audit/../target/bin/ring_trace}
+program=${1:-$audit/../crates/ring_trace/out/ring_trace}
 seeds=${2:-1000}
 length=${3:-15000}
 large=10000000
 
 if [[ ! -f $program || ! -x $program ]]; then
-    echo "no program: $program (built by: rt check ring_trace)" >&2
+    echo "no program: $program (built by rt run in crates/ring_trace)" >&2
     exit 2
 fi
 program=$(cd "$(dirname "$program")" && pwd)/$(basename "$program")

@@ -1,5 +1,5 @@
 -- What the watchers' promise covers on the card.
-use Rattle.std.proofs.Common.{◌≡◌, ℕ, Some, None, Err, refl, arith}
+use Rattle.std.proofs.Common.{◌≡◌, ℕ, None, Err, refl, arith}
 use Rattle.bits.specs.Bits.{bit}
 use Rattle.bus.specs.Places.{place}
 use Rattle.fec_mmd.specs.Layout.{fec_layout}

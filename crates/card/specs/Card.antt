@@ -1,5 +1,5 @@
 -- The ring card, as its manual lists it.
-use Rattle.std.specs.Prelude.{◌≡◌, ℕ, true, List, [], ◌∷◌, ◌++◌, Ok, Err, Result}
+use Rattle.std.specs.Prelude.{◌≡◌, true, List, [], ◌∷◌, ◌++◌, Ok, Err, Result}
 use Rattle.bank.specs.Banks.{slot_meaning}
 use Rattle.bank.specs.Slots.{SlotMeaning}
 use Rattle.bank.specs.declared.pair.Pair.{Pair}

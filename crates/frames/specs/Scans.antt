@@ -1,5 +1,5 @@
 -- How a line of text is read, byte by byte: white space, an optional 0x, one to eight hex digits, white space.
-use Rattle.std.specs.Prelude.{ℕ, ◌+◌, ◌*◌, ◌%◌, ◌^◌, Bool, cond, ◌||◌, List, [], ◌∷◌, ◌==◌, nat_lt}
+use Rattle.std.specs.Prelude.{ℕ, ◌+◌, ◌*◌, ◌%◌, ◌^◌, cond, ◌||◌, List, [], ◌∷◌, ◌==◌, nat_lt}
 use Rattle.std.specs.Char.{digit_value, is_ascii_whitespace}
 use Rattle.frames.specs.declared.scan.Glyph.{Glyph}
 use Rattle.frames.specs.declared.scan.Glyph.TheVariants.{White, Digit, Cross, Other as OtherGlyph}

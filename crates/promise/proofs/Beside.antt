@@ -13,10 +13,6 @@ use Rattle.bus.specs.declared.answer.Event.TheVariants.{Line as LineEvent, Count
 use Rattle.bus.proofs.Places.{place_event_taken, place_event_taken_elsewhere, place_register_read, place_register_read_elsewhere, place_register_written, place_register_written_elsewhere}
 use Rattle.mmd.specs.Events.{after_read, after_write}
 use Rattle.mmd.specs.Meaning.{Meaning}
-use Rattle.call.specs.declared.answer.Answer.{Answer}
-use Rattle.call.specs.declared.answer.CallRefusal.{CallRefusal}
-use Rattle.call.specs.declared.call.Call.{Call}
-use Rattle.call.specs.declared.call.Call.TheVariants.{WatchRead, At}
 use Rattle.call.specs.declared.call.Request.{Request}
 use Rattle.call.specs.declared.call.Request.TheVariants.{Read, Write, Line, Count, Finish, Reset}
 use Rattle.watch_list.specs.Entries.{port_of, device_of, is_of, fed_by}
@@ -24,12 +20,12 @@ use Rattle.watch_list.specs.Watches.{entry_of, after_look, taken_in}
 use Rattle.watch_list.specs.declared.entry.Entry.{Entry}
 use Rattle.watch_list.specs.declared.watch.Watched.{Watched}
 use Rattle.watch_list.proofs.Watches.{entry_of_taken_in, entry_of_after_look}
-use Rattle.promise.specs.Logs.{Exchange, Log, call_names, calls_naming, exchanges, exchanges_naming, names_entry}
-use Rattle.promise.specs.Rules.{State, admitted, after_call, answer_of, answer_under, answers_of, data_of, entry_frames, entry_read, evented, first_word, hearing, hears, is_of_mmd, looked, looked_nth, mmd_verdict, more_frames, place_of, place_verdict, read_by, reply, request_reply, request_verdict, requested, second_word, state_under, sweep_step, swept, told_nth, took, took_at, took_nth, verdict, watch_verdict}
+use Rattle.promise.specs.Logs.{names_entry}
+use Rattle.promise.specs.Rules.{State, entry_read, evented, first_word, hearing, hears, is_of_mmd, looked, looked_nth, more_frames, place_of, read_by, requested, second_word, swept, took, took_at, took_nth}
 use Rattle.promise.proofs.EntryReads.{after_entry, place_entry_read, place_entry_read_elsewhere}
 use Rattle.promise.proofs.Lists.{nth_map, nth_set_other, nth_set_same}
 use Rattle.promise.proofs.Steps.{Heard, hearing_right}
-use Rattle.promise.proofs.Views.{entry_at, map_set}
+use Rattle.promise.proofs.Views.{map_set}
 
 module _ (p d : ℕ) where
   abbrev KeptAlike : List Watched → List Watched → Type 0

@@ -1,5 +1,5 @@
 -- A long counter as a watcher sees it: the sum that it is owed so far, and what the counter holds.
-use Rattle.std.proofs.Common.{◌≡◌, ℕ, ◌+◌, ◌*◌, ◌/◌, ◌%◌, ◌<◌, ◌≤◌, min, Bool, true, false, cond, eqb, List, map, length, get_or, sym, refl, ap, ◌∙◌, subst, ap₂, arith, length-set, get_or-set_other, get_or-set_same}
+use Rattle.std.proofs.Common.{◌≡◌, ℕ, ◌+◌, ◌*◌, ◌%◌, ◌<◌, min, Bool, cond, eqb, length, get_or, refl, ap, ◌∙◌, ap₂, arith, length-set, get_or-set_other, get_or-set_same}
 use lib.ListN.{length-map}
 use Rattle.std.proofs.lemmas.List.{get_or-map}
 use Rattle.std.proofs.lemmas.Bool.Decides.{nat_tests}
@@ -14,13 +14,12 @@ use Rattle.call.specs.declared.call.Request.{Request}
 use Rattle.call.specs.declared.call.Request.TheVariants.{Read, Write, Line, Count, Finish, Reset}
 use Rattle.joining.specs.Words.{count_empty, count_joined, count_word}
 use Rattle.joining.specs.WordsLemmas.{sum_joined}
-use Rattle.watch_list.specs.Watches.{entry_of, after_look, taken_in, told}
+use Rattle.watch_list.specs.Watches.{after_look, taken_in, told}
 use Rattle.watch_list.specs.declared.entry.CountEntry.{CountEntry}
 use Rattle.watch_list.specs.declared.entry.Entry.TheVariants.{Count as EntryCount}
 use Rattle.watch_list.specs.declared.watch.Watched.{Watched}
 use Rattle.watch_list.specs.declared.watch.Watched.TheVariants.{Latch, Count as Counted}
 use Rattle.promise.specs.Rules.{first_word, second_word}
-use Rattle.promise.proofs.EntryReads.{after_entry}
 use Rattle.promise.proofs.Views.{Viewing}
 
 pub record CountView : Type 0 where

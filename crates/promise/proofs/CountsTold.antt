@@ -1,12 +1,11 @@
 -- A look tells a counter's sum since the watcher's previous look: of every log that follows the rules.
-use Rattle.std.proofs.Common.{◌≡◌, ℕ, ◌+◌, ◌<◌, ◌≤◌, min, Bool, true, false, cond, ◌&&◌, eqb, ltb, leb, ◌⊎◌, List, [], ◌∷◌, ◌++◌, sym, refl, ap, ◌∙◌, subst, ap₂, inl, inr, arith}
+use Rattle.std.proofs.Common.{◌≡◌, ℕ, ◌+◌, ◌<◌, Bool, true, false, cond, ◌&&◌, eqb, List, [], ◌∷◌, ◌++◌, refl, ap, ◌∙◌, inl, inr, arith}
 use lib.ListN.{length-replicate}
 use Rattle.std.proofs.lemmas.List.{get_or-replicate}
 use Rattle.std.proofs.lemmas.Bool.Decides.{nat_tests}
 use Rattle.std.specs.List.{AllByRecursion as All}
 use Rattle.bank.specs.Slots.{SlotMeaning}
 use Rattle.mmd.proofs.Counters.{counter_settled}
-use Rattle.call.specs.Answers.{value_of}
 use Rattle.call.specs.declared.call.Call.{Call}
 use Rattle.call.specs.declared.call.Call.TheVariants.{WatchRead, At}
 use Rattle.call.specs.declared.call.Request.{Request}
@@ -20,7 +19,7 @@ use Rattle.watch_list.specs.declared.entry.Entry.TheVariants.{Count}
 use Rattle.promise.specs.Logs.{Exchange, Log, accepted, amount_asked, amount_by, amount_called, counted, is_look, is_watch_read, FromLook, Since}
 use Rattle.promise.specs.Promises.{TellsCounts}
 use Rattle.promise.specs.Rules.{set_up}
-use Rattle.promise.proofs.CountViews.{CountView, OwesCount, ShowsCount, capped, count_asked, count_emptied, count_read, count_viewing, told_sum}
+use Rattle.promise.proofs.CountViews.{CountView, OwesCount, ShowsCount, capped, count_emptied, count_read, count_viewing, told_sum}
 use Rattle.promise.proofs.EntryReads.{SlotsKeep}
 use Rattle.promise.proofs.Looking.{look_follows, look_told, look_within, seen_at_set_up}
 use Rattle.promise.proofs.Runs.{FollowsRules, after_log}

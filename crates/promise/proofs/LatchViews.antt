@@ -1,17 +1,16 @@
 -- A latching bit as a watcher sees it: whether it is owed that the line stood at the bit's sense, whether the bit stands
 -- there, and whether the line does now.
-use Rattle.std.proofs.Common.{◌≡◌, ℕ, ◌<◌, ◌≤◌, Bool, true, false, cond, not, ◌&&◌, ◌||◌, eqb, ltb, leb, List, [], ◌∷◌, map, length, get_or, set, sym, refl, ap, ◌∙◌, subst, ap₂, arith, length-set, get_or-set_other, get_or-set_same}
-use lib.Bits.{bit_and, bit_or}
+use Rattle.std.proofs.Common.{◌≡◌, ℕ, ◌<◌, ◌≤◌, Bool, true, false, cond, ◌||◌, eqb, length, get_or, refl, ap, ◌∙◌, ap₂, arith, length-set, get_or-set_other, get_or-set_same}
+use lib.Bits.{bit_and}
 use lib.ListN.{length-map}
 use Rattle.std.proofs.lemmas.List.{get_or-map}
 use Rattle.std.proofs.lemmas.Bool.Decides.{nat_tests}
 use Rattle.bits.specs.Bits.{bit}
-use Rattle.bits.proofs.Bits.{bit_of_and, bit_of_or, bit_ones, bit_zero}
+use Rattle.bits.proofs.Bits.{bit_of_and, bit_ones, bit_zero}
 use Rattle.mmd.specs.Cells.{latch}
 use Rattle.mmd.specs.Events.{after_read, after_write, after_line, after_count, after_finish, after_reset, same}
-use Rattle.mmd.specs.Invariant.{Keeps, Settled}
 use Rattle.mmd.specs.Meaning.{Meaning, read_word, shown}
-use Rattle.mmd.proofs.Latches.{latch_after_read, latch_after_write, latch_after_line, latch_after_count, latch_after_finish, latch_after_reset, latch_settled, line_after_read, line_after_write, line_after_line, line_after_count, line_after_finish, line_after_reset}
+use Rattle.mmd.proofs.Latches.{latch_after_read, latch_after_write, latch_after_line, latch_after_count, latch_after_finish, latch_after_reset, line_after_read, line_after_write, line_after_line, line_after_count, line_after_finish, line_after_reset}
 use Rattle.mmd.proofs.Layouts.{layout_after_read, layout_after_write, layout_after_line, layout_after_count, layout_after_finish, layout_after_reset}
 use Rattle.mmd.proofs.Words.{bit_read_word}
 use Rattle.call.specs.declared.call.Request.{Request}

@@ -1,6 +1,6 @@
 -- A look tells a latching bit exactly by its line's moments since the watcher's previous look: of every log that follows
 -- the rules.
-use Rattle.std.proofs.Common.{◌≡◌, ℕ, ◌<◌, ◌≤◌, Bool, true, false, cond, not, ◌&&◌, ◌||◌, eqb, ltb, leb, ◌⊎◌, ◌↔◌, List, [], ◌∷◌, ◌++◌, map, sym, refl, ap, ◌∙◌, subst, ap₂, inl, inr, ⊎_elim, append_assoc, arith}
+use Rattle.std.proofs.Common.{◌≡◌, ℕ, ◌<◌, Bool, true, false, cond, ◌&&◌, ◌||◌, eqb, ◌⊎◌, ◌↔◌, List, [], ◌∷◌, ◌++◌, sym, refl, ap, ◌∙◌, subst, inl, inr, ⊎_elim, arith}
 use lib.ListN.{length-replicate}
 use Rattle.std.proofs.lemmas.List.{get_or-replicate}
 use Rattle.std.proofs.lemmas.Bool.Decides.{nat_tests}
@@ -20,11 +20,11 @@ use Rattle.watch_list.specs.Watches.{new_watched}
 use Rattle.watch_list.specs.declared.entry.Entry.{Entry}
 use Rattle.watch_list.specs.declared.entry.Entry.TheVariants.{Latch}
 use Rattle.watch_list.specs.declared.entry.LatchEntry.{LatchEntry}
-use Rattle.promise.specs.Logs.{Exchange, Log, accepted, is_look, is_watch_read, line_after, line_asked, line_by, line_called, FromLook, Since, AtSomeMoment}
+use Rattle.promise.specs.Logs.{Exchange, Log, accepted, is_look, is_watch_read, line_after, line_asked, line_by, line_called, FromLook}
 use Rattle.promise.specs.Promises.{TellsLatches}
 use Rattle.promise.specs.Rules.{set_up}
 use Rattle.promise.proofs.EntryReads.{SlotsKeep}
-use Rattle.promise.proofs.LatchViews.{LatchView, OwesLatch, ShowsLatch, latch_asked, latch_emptied, latch_lined, latch_read, latch_viewing, part, part_empty, told_owed}
+use Rattle.promise.proofs.LatchViews.{LatchView, OwesLatch, ShowsLatch, latch_emptied, latch_read, latch_viewing, part, part_empty, told_owed}
 use Rattle.promise.proofs.Looking.{look_follows, look_told, look_within, seen_at_set_up}
 use Rattle.promise.proofs.Runs.{FollowsRules, after_log}
 use Rattle.promise.proofs.Steps.{view_after, view_asked, view_by, view_called}

@@ -1,5 +1,5 @@
 -- What a look tells: the watcher's word after the entry was read, at the end of what came since its previous look.
-use Rattle.std.proofs.Common.{◌≡◌, ℕ, zero, suc, ◌<◌, ◌≤◌, Bool, true, false, cond, ◌&&◌, eqb, leb, List, [], ◌∷◌, ◌++◌, map, Some, None, Option, sym, refl, ap, ◌∙◌, subst, ap₂, append_assoc, arith}
+use Rattle.std.proofs.Common.{◌≡◌, ℕ, ◌<◌, true, List, [], ◌∷◌, ◌++◌, map, Some, None, Option, sym, refl, ap, ◌∙◌, subst, ap₂, append_assoc, arith}
 use Rattle.std.proofs.lemmas.Bool.Decides.{nat_tests}
 use Rattle.std.specs.List.{slice_get}
 use Rattle.std.specs.Option.{option_map}
@@ -7,7 +7,6 @@ use Rattle.bank.specs.Slots.{SlotMeaning}
 use Rattle.bus.specs.Places.{found}
 use Rattle.mmd.specs.Meaning.{Meaning}
 use Rattle.call.specs.Answers.{is_accepted, value_of}
-use Rattle.call.specs.declared.answer.Answer.TheVariants.{Told}
 use Rattle.call.specs.declared.answer.CallRefusal.{CallRefusal}
 use Rattle.call.specs.declared.call.Call.{Call}
 use Rattle.call.specs.declared.call.Call.TheVariants.{WatchRead, At}

@@ -1,7 +1,7 @@
 -- Every look has its past: the watcher's previous look, or set-up, and what came since.
-use Rattle.std.proofs.Common.{◌≡◌, ℕ, Bool, true, false, ◌⊎◌, List, [], ◌∷◌, ◌++◌, sym, refl, ap, ◌∙◌, inl, inr, append_assoc}
+use Rattle.std.proofs.Common.{◌≡◌, ℕ, Bool, true, false, ◌⊎◌, [], ◌∷◌, ◌++◌, refl, ap, ◌∙◌, inl, inr, append_assoc}
 use Rattle.std.specs.List.{AllByRecursion as All}
-use Rattle.promise.specs.Logs.{Exchange, Log, is_look, FromLook, Since}
+use Rattle.promise.specs.Logs.{Exchange, Log, is_look, Since}
 use Rattle.promise.specs.Promises.{EveryLookHasItsPast}
 
 module _ (watcher i : ℕ) where

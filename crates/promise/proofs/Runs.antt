@@ -1,7 +1,7 @@
 -- Logs whose answers are those of the rules.
-use Rattle.std.proofs.Common.{◌≡◌, List, [], ◌∷◌, ◌++◌, sym, refl, ap, ◌∙◌, ap₂}
+use Rattle.std.proofs.Common.{◌≡◌, List, [], ◌∷◌, ◌++◌, refl}
 use Rattle.call.specs.declared.call.Call.{Call}
-use Rattle.promise.specs.Logs.{Exchange, Log, exchanges}
+use Rattle.promise.specs.Logs.{Log, exchanges}
 use Rattle.promise.specs.Rules.{State, after_call, answer_of, answers_of}
 
 abbrev pub FollowsRules : State → Log → Type 0

@@ -1,14 +1,14 @@
 -- What every call does to a view, by the call and its answer alone.
-use Rattle.std.proofs.Common.{◌≡◌, ℕ, zero, suc, ◌<◌, ◌≤◌, Bool, true, false, cond, ◌&&◌, eqb, ltb, leb, List, [], ◌∷◌, length, is_ok, Some, None, Ok, Err, Option, Result, sym, refl, ap, ◌∙◌, subst, ap₂, ⊎_elim, arith}
+use Rattle.std.proofs.Common.{◌≡◌, ℕ, zero, suc, Bool, true, false, cond, ◌&&◌, eqb, ltb, List, [], ◌∷◌, length, is_ok, Some, None, Ok, Err, Option, Result, sym, refl, ap, ◌∙◌, subst, ap₂, ⊎_elim, arith}
 use Rattle.std.proofs.lemmas.Bool.{cases_eq}
 use Rattle.std.proofs.lemmas.Bool.Decides.{nat_tests}
 use Rattle.std.specs.List.{slice_get}
 use Rattle.bank.specs.Slots.{next_place}
-use Rattle.bus.specs.Places.{Place, no_port, no_device, found, place, on_found, same_address, after_event, event_taken, from_mmd, register_read, register_written}
+use Rattle.bus.specs.Places.{found, place, on_found, same_address, after_event, event_taken, from_mmd, register_read, register_written}
 use Rattle.bus.specs.declared.answer.Event.{Event}
 use Rattle.bus.specs.declared.answer.Event.TheVariants.{Line as LineEvent, Count as CountEvent, Finish as FinishEvent, Reset as ResetEvent}
 use Rattle.bus.proofs.Places.{place_event_taken, place_event_taken_elsewhere, event_taken_keeps, place_register_read, place_register_read_elsewhere, register_read_keeps, place_register_written, place_register_written_elsewhere, register_written_keeps}
-use Rattle.mmd.specs.Events.{after_read, after_write, after_line, after_count, after_finish, after_reset}
+use Rattle.mmd.specs.Events.{after_read, after_write, after_count, after_finish}
 use Rattle.mmd.specs.Meaning.{Meaning}
 use Rattle.mmd.specs.Refusals.{count_answer, finish_answer}
 use Rattle.mmd.specs.declared.refusal.MmdRefusal.{MmdRefusal}
@@ -25,7 +25,7 @@ use Rattle.watch_list.specs.declared.entry.Entry.{Entry}
 use Rattle.watch_list.specs.declared.watch.Watched.{Watched}
 use Rattle.promise.specs.Logs.{Exchange, Log, accepted}
 use Rattle.promise.proofs.Runs.{FollowsRules, after_log}
-use Rattle.promise.specs.Rules.{State, admitted, after_call, answer_of, answer_under, evented, hearing, hears, in_range, is_of_mmd, looked, mmd_verdict, more_frames, place_of, place_verdict, read_by, refused_by, reply, request_verdict, requested, state_under, sweep_step, swept, took, verdict, watch_verdict}
+use Rattle.promise.specs.Rules.{State, admitted, after_call, answer_of, answer_under, evented, hearing, hears, in_range, is_of_mmd, looked, mmd_verdict, more_frames, place_of, place_verdict, read_by, refused_by, reply, requested, state_under, sweep_step, swept, took, verdict}
 use Rattle.promise.proofs.Lists.{nth_within}
 use Rattle.promise.proofs.Views.{Sees, Viewing, entry_at, feeds_itself, looked_by_other, looked_elsewhere, looked_own, slots_changed, slots_elsewhere, took_other, took_own}
 

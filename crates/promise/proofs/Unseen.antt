@@ -1,24 +1,22 @@
 -- Calls that name an MMD get the same answers whatever stands beside it: of every two runs.
-use Rattle.std.proofs.Common.{◌≡◌, ℕ, Bool, true, false, cond, ◌&&◌, eqb, leb, List, [], ◌∷◌, map, Some, None, Option, sym, refl, ap, ◌∙◌, subst, ap₂, arith}
+use Rattle.std.proofs.Common.{◌≡◌, ℕ, Bool, true, false, cond, ◌&&◌, leb, List, [], ◌∷◌, Some, None, Option, sym, refl, ap, ◌∙◌, subst, ap₂, arith}
 use Rattle.std.proofs.lemmas.Bool.Decides.{nat_tests}
 use Rattle.std.specs.List.{slice_get}
 use Rattle.bank.specs.Slots.{SlotMeaning}
-use Rattle.bus.specs.Places.{addressable, place, same_address}
+use Rattle.bus.specs.Places.{addressable}
 use Rattle.call.specs.declared.answer.Answer.{Answer}
-use Rattle.call.specs.declared.answer.Answer.TheVariants.{Data, Told, Done}
+use Rattle.call.specs.declared.answer.Answer.TheVariants.{Data, Told}
 use Rattle.call.specs.declared.answer.CallRefusal.{CallRefusal}
 use Rattle.call.specs.declared.answer.CallRefusal.TheVariants.{OutOfRange}
 use Rattle.call.specs.declared.call.Call.{Call}
 use Rattle.call.specs.declared.call.Call.TheVariants.{WatchRead, At}
 use Rattle.call.specs.declared.call.Request.{Request}
 use Rattle.call.specs.declared.call.Request.TheVariants.{Read, Write, Line, Count, Finish, Reset}
-use Rattle.watch_list.specs.Entries.{is_of}
-use Rattle.watch_list.specs.Watches.{entry_of, new_watched}
+use Rattle.watch_list.specs.Watches.{entry_of}
 use Rattle.watch_list.specs.declared.entry.Entry.{Entry}
-use Rattle.watch_list.specs.declared.watch.Watched.{Watched}
-use Rattle.promise.specs.Logs.{Exchange, Log, call_names, calls_naming, exchanges, exchanges_naming}
+use Rattle.promise.specs.Logs.{Log, call_names, calls_naming, exchanges, exchanges_naming}
 use Rattle.promise.specs.Promises.{UnseenBeside}
-use Rattle.promise.specs.Rules.{State, admitted, after_call, answer_of, answer_under, answers_of, data_of, in_range, is_of_mmd, looked, mmd_verdict, place_of, place_verdict, reply, request_reply, request_verdict, requested, set_up, state_under, told_nth, took, verdict, watch_verdict}
+use Rattle.promise.specs.Rules.{State, admitted, after_call, answer_of, answer_under, answers_of, data_of, in_range, is_of_mmd, mmd_verdict, place_of, place_verdict, reply, request_reply, set_up, state_under, told_nth, took, verdict, watch_verdict}
 use Rattle.promise.proofs.Beside.{Alike, found_of, listed_of, looked_both, looked_left, place_at, requested_both, requested_left, took_both, took_left}
 use Rattle.promise.proofs.Looking.{new_entries}
 

@@ -2,12 +2,12 @@
 -- watcher and one entry: it is read off the entry's MMD and the watcher's word, and each call changes it by a rule that
 -- knows nothing of a station. The sort of view, and what reads and events do to it, are its owner's: a latching bit's,
 -- and a counter's.
-use Rattle.std.proofs.Common.{◌≡◌, ℕ, zero, suc, ◌<◌, ◌≤◌, Bool, true, false, cond, ◌&&◌, eqb, ltb, leb, List, [], ◌∷◌, map, length, set, Some, None, Option, sym, refl, ap, ◌∙◌, subst, ap₂, ⊎_elim, arith}
+use Rattle.std.proofs.Common.{◌≡◌, ℕ, zero, suc, ◌≤◌, Bool, true, false, List, [], ◌∷◌, map, set, Some, None, Option, sym, refl, ap, ◌∙◌, subst, ap₂, arith}
 use Rattle.std.proofs.lemmas.Bool.Decides.{nat_tests}
 use Rattle.std.specs.List.{slice_get}
 use Rattle.std.specs.Option.{option_map}
 use Rattle.bank.specs.Slots.{SlotMeaning}
-use Rattle.bus.specs.Places.{Place, no_port, no_device, found, place, on_found, same_address}
+use Rattle.bus.specs.Places.{Place, no_port, no_device, found, place, on_found}
 use Rattle.bus.proofs.Places.{found_keeps}
 use Rattle.mmd.specs.Events.{after_read, after_write, after_line, after_count, after_finish, after_reset}
 use Rattle.mmd.specs.Invariant.{Keeps}

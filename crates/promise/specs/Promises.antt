@@ -1,5 +1,5 @@
 -- The watchers' promise: what every run of a station keeps, over its log and the bank as it was at set-up.
-use Rattle.std.specs.Prelude.{◌≡◌, ℕ, ◌<◌, min, Bool, true, cond, ◌↔◌, List, [], ◌∷◌, ◌++◌, Some}
+use Rattle.std.specs.Prelude.{◌≡◌, ℕ, ◌<◌, min, Bool, true, cond, ◌↔◌, List, ◌∷◌, ◌++◌, Some}
 use Rattle.std.specs.List.{slice_get}
 use Rattle.bank.specs.Slots.{SlotMeaning}
 use Rattle.bits.specs.Bits.{bit}

@@ -1,10 +1,9 @@
 -- A register access of the bus, told by the rules.
-use Rattle.std.proofs.Common.{◌≡◌, ℕ, ◌+◌, ◌%◌, ◌<◌, Bool, true, false, cond, ◌&&◌, List, is_ok, Some, None, Ok, Err, Option, Result, sym, refl, ap, ◌∙◌, arith}
+use Rattle.std.proofs.Common.{◌≡◌, ℕ, ◌+◌, ◌%◌, ◌<◌, Bool, true, false, cond, ◌&&◌, List, is_ok, Some, None, Ok, Err, Option, Result, refl, ap, ◌∙◌, arith}
 use Rattle.bank.specs.Slots.{SlotMeaning}
 use Rattle.bank.specs.declared.deed.Deed.TheVariants.{Address, Write as WriteDeed, Read as ReadDeed}
 use Rattle.bus.specs.Places.{Place, no_port, no_device, found, accessed, addressable, frames_accessed, place, read_of, register_read, register_written, worked, write_of}
 use Rattle.bus.specs.declared.answer.BusRefusal.{BusRefusal}
-use Rattle.bus.specs.declared.answer.BusRefusal.TheVariants.{NoPort, NoDevice}
 use Rattle.bus.proofs.Places.{absent_unchanged}
 use Rattle.mmd.specs.Meaning.{Meaning}
 use Rattle.call.specs.Answers.{refusal_from}

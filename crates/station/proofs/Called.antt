@@ -1,5 +1,5 @@
 -- A call's result and what it left, as the rules have them.
-use Rattle.std.proofs.Common.{◌≡◌, ℕ, ◌<◌, Bool, true, false, cond, ◌&&◌, List, length, Some, None, Ok, Err, Option, Result, sym, refl, ap, ◌∙◌, ap₂, arith}
+use Rattle.std.proofs.Common.{◌≡◌, ℕ, ◌<◌, true, false, cond, ◌&&◌, List, length, Some, None, Err, Option, Result, sym, refl, ap, ◌∙◌, ap₂, arith}
 use Rattle.std.proofs.lemmas.Bool.Decides.{nat_tests}
 use Rattle.std.specs.List.{slice_get}
 use Rattle.bank.specs.Slots.{SlotMeaning}
@@ -8,14 +8,12 @@ use Rattle.bus.specs.declared.answer.BusRefusal.{BusRefusal}
 use Rattle.bus.specs.declared.answer.Event.{Event}
 use Rattle.bus.specs.declared.answer.Event.TheVariants.{Reset as ResetEvent}
 use Rattle.mmd.specs.Meaning.{Meaning}
-use Rattle.call.specs.declared.answer.Answer.{Answer}
-use Rattle.call.specs.declared.answer.Answer.TheVariants.{Data, Told, Done, Refused}
+use Rattle.call.specs.declared.answer.Answer.TheVariants.{Data, Told, Done}
 use Rattle.call.specs.declared.answer.CallRefusal.{CallRefusal}
 use Rattle.call.specs.declared.answer.CallRefusal.TheVariants.{NoDevice, NoPort, OutOfRange}
 use Rattle.call.specs.declared.call.Call.{Call}
-use Rattle.call.specs.declared.call.Call.TheVariants.{WatchRead, At}
-use Rattle.call.specs.declared.call.Request.{Request}
-use Rattle.call.specs.declared.call.Request.TheVariants.{Read, Write, Line, Count, Finish, Reset}
+use Rattle.call.specs.declared.call.Call.TheVariants.{At}
+use Rattle.call.specs.declared.call.Request.TheVariants.{Read, Write, Reset}
 use Rattle.promise.specs.Rules.{State, admitted, after_call, answer_of, answer_under, data_of, evented, hearing, place_of, place_verdict, read_by, reply, state_under, swept, took, verdict}
 use Rattle.watch_list.specs.Entries.{port_of, device_of, fed_by}
 use Rattle.watch_list.specs.Watches.{entry_of}

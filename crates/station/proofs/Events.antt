@@ -1,5 +1,5 @@
 -- An event that the bus took or refused, told by the rules.
-use Rattle.std.proofs.Common.{◌≡◌, ℕ, zero, suc, Bool, true, false, cond, ◌&&◌, List, [], ◌∷◌, is_ok, Some, None, Ok, Err, Option, Result, sym, refl, ap, ◌∙◌, ap₂, arith}
+use Rattle.std.proofs.Common.{◌≡◌, ℕ, zero, suc, true, cond, ◌&&◌, List, [], ◌∷◌, is_ok, Some, None, Ok, Err, Option, Result, sym, refl, ap, ◌∙◌, ap₂, arith}
 use Rattle.bank.specs.Deeds.{after_at, after_deed}
 use Rattle.bank.specs.Slots.{SlotMeaning}
 use Rattle.bank.specs.declared.deed.Deed.{Deed}
@@ -16,11 +16,10 @@ use Rattle.mmd.specs.Meaning.{Meaning}
 use Rattle.mmd.specs.Refusals.{count_answer, finish_answer}
 use Rattle.mmd.specs.declared.refusal.MmdRefusal.{MmdRefusal}
 use Rattle.call.specs.Answers.{refusal_from}
-use Rattle.call.specs.declared.answer.CallRefusal.{CallRefusal}
 use Rattle.call.specs.declared.answer.CallRefusal.TheVariants.{OutOfRange}
 use Rattle.promise.specs.Rules.{State, evented, in_range, mmd_verdict, place_verdict, refused_by, state_under}
 use Rattle.station.specs.Outcomes.{event_verdict, request_of, result_under}
-use Rattle.station.proofs.Accesses.{Absent, absent_device, absent_port, as_call}
+use Rattle.station.proofs.Accesses.{Absent, absent_device, absent_port}
 
 -- ---- an event that the MMD refuses changes no slot
 

@@ -1,9 +1,9 @@
 -- An entry's registers are read, and its words take the reading in.
-use Rattle.std.proofs.Common.{◌≡◌, ℕ, ◌+◌, ◌%◌, ◌<◌, Bool, true, false, cond, ◌&&◌, List, length, get_or, set, Some, None, Ok, Err, Option, Result, sym, refl, ap, ◌∙◌, subst, ap₂, arith}
+use Rattle.std.proofs.Common.{◌≡◌, ℕ, Bool, true, false, cond, ◌&&◌, List, length, get_or, set, Some, None, Ok, Err, Option, Result, sym, refl, ap, ◌∙◌, subst, ap₂, arith}
 use Rattle.std.proofs.lemmas.Option.{slice_get_read}
 use Rattle.std.specs.List.{slice_get}
 use Rattle.bank.specs.Slots.{SlotMeaning}
-use Rattle.bus.specs.Places.{Place, no_port, no_device, found, addressable, on_found, place, register_read}
+use Rattle.bus.specs.Places.{Place, no_port, no_device, found, addressable, on_found, place}
 use Rattle.bus.proofs.Places.{place_register_read}
 use Rattle.mmd.specs.Events.{after_read}
 use Rattle.mmd.specs.Meaning.{Meaning, read_word}
@@ -14,7 +14,7 @@ use Rattle.promise.proofs.Lists.{nth_within}
 use Rattle.watch_list.specs.Entries.{fed_by}
 use Rattle.watch_list.specs.Watches.{after_look, entry_of, taken_in, told}
 use Rattle.watch_list.specs.declared.entry.Entry.{Entry}
-use Rattle.watch_list.specs.declared.entry.Entry.TheVariants.{Latch, Count}
+use Rattle.watch_list.specs.declared.entry.Entry.TheVariants.{Count}
 use Rattle.watch_list.specs.declared.entry.CountEntry.{CountEntry}
 use Rattle.watch_list.specs.declared.watch.Watched.{Watched}
 use Rattle.station.specs.Named.{is_named}

@@ -1,8 +1,7 @@
 -- Working a part of a trace, record by record.
-use Rattle.std.proofs.Common.{◌≡◌, ℕ, zero, suc, ◌+◌, ◌-◌, ◌<◌, ◌≤◌, Bool, true, false, ◌||◌, leb, ◌⊎◌, List, [], ◌∷◌, ◌++◌, length, Some, None, Ok, Err, Option, Result, sym, refl, ap, ◌∙◌, subst, ap₂, inl, inr, append_assoc, arith, length-append}
+use Rattle.std.proofs.Common.{◌≡◌, ℕ, suc, ◌≤◌, Bool, true, false, ◌||◌, leb, List, [], ◌∷◌, ◌++◌, length, Some, None, Ok, Err, sym, refl, ap, ◌∙◌, subst, ap₂, inl, inr, append_assoc, arith}
 use Rattle.std.proofs.lemmas.List.{append-nil}
 use Rattle.std.proofs.lemmas.Bool.Decides.{nat_tests}
-use Rattle.call.specs.declared.answer.Answer.{Answer}
 use Rattle.call.specs.declared.call.Call.{Call}
 use Rattle.promise.specs.Rules.{State, after_call, after_calls, answer_of, answers_of}
 use Rattle.trace_format.specs.Decoding.{Bytes, Listed, fields_length}
@@ -14,7 +13,7 @@ use Rattle.trace_format.specs.declared.refusal.TraceRefusal.TheVariants.{Unliste
 use Rattle.trace_format.proofs.Decoding.{cut, decoded_was_spelled, ends, unlisted}
 use Rattle.trace_format.proofs.Spelled.{spelled_is_decoded}
 use Rattle.trace.specs.Parts.{Follows, WorkedSoFar, WorkedToTheEnd, before}
-use Rattle.trace.specs.Traces.{Reading, lines_of, reading_of, text_of}
+use Rattle.trace.specs.Traces.{lines_of, reading_of}
 use Rattle.trace.proofs.Inputs.{bytes_back, reading_ends, reading_more, reading_stops}
 
 -- ---- a record that is there whole is decoded alike whatever follows

@@ -1,13 +1,13 @@
 -- What a step of a trace came to, read off its outcome.
-use Rattle.std.proofs.Common.{◌≡◌, ℕ, ◌+◌, ◌-◌, ◌<◌, ◌≤◌, Bool, true, false, cond, ltb, List, [], ◌∷◌, ◌++◌, length, take, drop, Some, None, Ok, Err, Option, Result, sym, refl, ap, ◌∙◌, subst, ap₂, append_assoc, arith, length-append, length-take}
+use Rattle.std.proofs.Common.{◌≡◌, ℕ, ◌+◌, ◌-◌, ◌≤◌, Bool, true, false, cond, ltb, List, ◌++◌, length, take, drop, Some, None, Ok, Err, Option, Result, sym, refl, ap, ◌∙◌, subst, append_assoc, arith, length-append, length-take}
 use borrow.Rule.Slice.PartMut.{put_mid}
 use lib.Seq.{take-append-le}
 use Rattle.std.proofs.lemmas.List.{take_all}
 use Rattle.std.proofs.lemmas.Bool.Decides.{nat_tests}
-use Rattle.promise.specs.Rules.{State, after_call, answer_of}
+use Rattle.promise.specs.Rules.{State, after_call}
 use Rattle.trace_format.specs.Lines.{line_max, line_of}
 use Rattle.trace_format.specs.Records.{Taken, decode_of}
-use Rattle.trace_format.specs.declared.line.Line.TheVariants.{Answer, Stop}
+use Rattle.trace_format.specs.declared.line.Line.TheVariants.{Stop}
 use Rattle.trace_format.specs.declared.refusal.BufferRefusal.{BufferRefusal}
 use Rattle.trace_format.specs.declared.refusal.BufferRefusal.TheVariants.{Short}
 use Rattle.trace_format.specs.declared.refusal.TraceRefusal.{TraceRefusal}

@@ -1,5 +1,5 @@
 -- One step of a trace: a record's call is made and answered by its line, or the trace ends.
-use Rattle.std.specs.Prelude.{ℕ, cond, List, ◌++◌, length, Some, None, Ok, Err, Option, Result, nat_lt}
+use Rattle.std.specs.Prelude.{ℕ, cond, List, length, Some, None, Ok, Err, Option, Result, nat_lt}
 use Rattle.promise.specs.Rules.{State, after_call, answer_of}
 use Rattle.trace_format.specs.Lines.{buffer_after, line_max, line_of}
 use Rattle.trace_format.specs.Records.{Taken, decode_of}

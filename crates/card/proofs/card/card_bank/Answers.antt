@@ -1,4 +1,4 @@
-use Rattle.std.proofs.Common.{◌≡◌, List, [], ◌∷◌, sym, refl, ap, ◌∙◌, ap₂, rules}
+use Rattle.std.proofs.Common.{◌≡◌, [], ◌∷◌, ap, ◌∙◌, ap₂}
 use Rattle.bank.specs.Banks.{slot_meaning}
 use Rattle.bank.specs.Slots.{SlotMeaning}
 use Rattle.mmd.specs.Meaning.{Meaning}

@@ -1,4 +1,4 @@
-use Rattle.std.proofs.Common.{◌≡◌, ℕ, ◌+◌, ◌-◌, ◌<◌, ◌≤◌, List, ◌++◌, length, take, drop, Ok, sym, refl, ap, ◌∙◌, subst, arith, length-append, length-drop, length-take}
+use Rattle.std.proofs.Common.{◌≡◌, ℕ, ◌-◌, ◌≤◌, List, ◌++◌, length, take, drop, Ok, sym, refl, ap, ◌∙◌, subst, arith, length-append, length-drop, length-take}
 use borrow.Rule.Slice.PartMut.{put_mid, same_len_mid, take_put}
 use Rattle.station.specs.Stations.{state_of}
 use Rattle.trace_format.specs.Decoding.{Bytes}
@@ -6,7 +6,7 @@ use Rattle.trace_format.specs.Lines.{line_of}
 use Rattle.trace_format.specs.declared.line.Line.TheVariants.{Stop}
 use Rattle.trace_format.proofs.Decoding.{takes_some}
 use Rattle.trace.specs.Parts.{WorkedSoFar, WorkedToTheEnd}
-use Rattle.trace.specs.Steps.{Outcome, answer_line, answered, ended, outcome, stopped}
+use Rattle.trace.specs.Steps.{answer_line, answered, ended, outcome, stopped}
 use Rattle.trace.proofs.Parts.{bytes_more, ends_here, so_far_more, so_far_start, stops_here}
 use Rattle.trace.proofs.Stepped.{refused_unchanged, text_more, was}
 use Rattle.trace.proofs.part.replay_part.Goals as goal

@@ -1,7 +1,7 @@
-use Rattle.std.proofs.Common.{◌≡◌, List, [], ◌∷◌, ◌++◌, Some, None, Ok, vec_items, sym, refl, ap, ◌∙◌, append_assoc, arith}
+use Rattle.std.proofs.Common.{◌≡◌, List, [], ◌∷◌, ◌++◌, Some, Ok, vec_items, sym, ap, ◌∙◌, append_assoc, arith}
 use Rattle.std.proofs.lemmas.List.{append-nil}
 use Rattle.call.specs.declared.call.Call.{Call}
-use Rattle.trace_format.specs.Records.{Taken, decode_of, decoded}
+use Rattle.trace_format.specs.Records.{decode_of, decoded}
 use Rattle.trace_format.proofs.Decoding.{takes_some}
 use Rattle.trace.specs.Traces.{Reading, reading_of}
 use Rattle.trace.proofs.Inputs.{reading_more, reading_ends, reading_stops}

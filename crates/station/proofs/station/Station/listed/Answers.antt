@@ -1,4 +1,4 @@
-use Rattle.std.proofs.Common.{◌≡◌, ◌<◌, vec_items, ap, arith}
+use Rattle.std.proofs.Common.{◌≡◌, vec_items, ap, arith}
 use Rattle.bus.specs.declared.bus.Bus.{Bus}
 use Rattle.station.proofs.Named.{named_checked}
 use Rattle.station.proofs.station.Station.listed.Goals as goal

@@ -1,4 +1,4 @@
-use Rattle.std.proofs.Common.{sym, ◌∙◌}
+use Rattle.std.proofs.Common.{sym}
 use Rattle.station.specs.Stations.{state_of}
 use Rattle.station.proofs.Called.{reset_called, reset_unnamed}
 use Rattle.station.proofs.station.Station.reset.Goals as goal

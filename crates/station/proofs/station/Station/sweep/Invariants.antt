@@ -1,4 +1,4 @@
-use Rattle.std.proofs.Common.{◌≡◌, ◌≤◌, length}
+use Rattle.std.proofs.Common.{◌≡◌, length}
 use Rattle.promise.specs.Rules.{swept}
 use Rattle.station.specs.Stations.{state_of}
 use Rattle.station.proofs.station.Station.sweep.Given as goal
