@@ -19,8 +19,8 @@ impl Field {
 
     // A word with a value put into this field; so far the word is zero there and below.
     pub fn put(self, word: u32, value: u32) -> u32
-        requires width_bound { (self.low + self.width ≤ 32) × (self.low < 32) }
-        requires width_value { (word % 2 ^ (self.low + self.width) ≡ 0) × (value < 2 ^ self.width) }
+        requires in_word { (self.low + self.width ≤ 32) × (self.low < 32) }
+        requires room { (word % 2 ^ (self.low + self.width) ≡ 0) × (value < 2 ^ self.width) }
         ensures { result ≡ word + value * 2 ^ self.low }
     {
         word | (value << self.low)

@@ -13,7 +13,6 @@ use bus::bus::Bus;
 use card::card::card_bank;
 use frame::word::split;
 use listing::{Listing, NumberedLine};
-use mmd::mmd::Mmd;
 use scan::Line;
 use show::{AnswerText, FrameText};
 use std::io;

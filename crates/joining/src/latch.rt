@@ -1,6 +1,6 @@
 // What a watcher is owed of a latch register: every reading since its last look, joined bit by bit.
 ghost use Rattle.joining.specs.Words.{latch_empty, LatchFits, latch_joined, latch_word};
-ghost use Rattle.joining.specs.WordsLemmas.{latch_assoc, latch_before, latch_after};
+ghost use Rattle.joining.specs.Laws.{latch_assoc, latch_before, latch_after};
 ghost use Rattle.std.proofs.Common.{rules};
 
 use crate::joining::Joining;

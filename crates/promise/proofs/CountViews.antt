@@ -13,7 +13,7 @@ use Rattle.mmd.proofs.Layouts.{layout_after_read, layout_after_write, layout_aft
 use Rattle.call.specs.declared.call.Request.{Request}
 use Rattle.call.specs.declared.call.Request.TheVariants.{Read, Write, Line, Count, Finish, Reset}
 use Rattle.joining.specs.Words.{count_empty, count_joined, count_word}
-use Rattle.joining.specs.WordsLemmas.{sum_joined}
+use Rattle.joining.proofs.Words.{sum_joined}
 use Rattle.watch_list.specs.Watches.{after_look, taken_in, told}
 use Rattle.watch_list.specs.declared.entry.CountEntry.{CountEntry}
 use Rattle.watch_list.specs.declared.entry.Entry.TheVariants.{Count as EntryCount}

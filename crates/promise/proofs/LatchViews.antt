@@ -17,7 +17,7 @@ use Rattle.call.specs.declared.call.Request.{Request}
 use Rattle.call.specs.declared.call.Request.TheVariants.{Read, Write, Line, Count, Finish, Reset}
 use Rattle.joining.specs.Words.{latch_empty, latch_joined, latch_word}
 use Rattle.joining.specs.declared.latch.LatchWord.{LatchWord}
-use Rattle.joining.specs.WordsLemmas.{any_joined, all_joined}
+use Rattle.joining.proofs.Words.{any_joined, all_joined}
 use Rattle.watch_list.specs.Watches.{entry_of, after_look, latch_told, taken_in, told}
 use Rattle.watch_list.specs.declared.entry.Entry.TheVariants.{Latch as EntryLatch}
 use Rattle.watch_list.specs.declared.entry.LatchEntry.{LatchEntry}

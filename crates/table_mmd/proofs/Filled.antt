@@ -20,8 +20,8 @@ use Rattle.table_mmd.specs.declared.entry.Entry.{Entry}
 use Rattle.rows.specs.declared.row.Row.{Row}
 use Rattle.rows.specs.declared.slot.CounterSlot.{CounterSlot}
 use Rattle.rows.proofs.Passing.{passing_fits, passing_narrow, passing_rises, passing_sound}
-use Rattle.table_mmd.specs.Places.{Fits, reset_acts}
-use Rattle.table_mmd.specs.Stored.{stored_after}
+use Rattle.table_mmd.proofs.Places.{Fits, reset_acts}
+use Rattle.table_mmd.proofs.Stored.{stored_after}
 
 abbrev bare : Row → Entry
 bare row = record { row = row; state = 0 }

@@ -1,5 +1,9 @@
+pub mod After
 pub mod Filled
+pub mod Laid
+pub mod Places
 pub mod Shown
 pub mod Spans
+pub mod Stored
 pub mod Walked
 pub mod Walks

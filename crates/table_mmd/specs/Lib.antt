@@ -3,8 +3,5 @@ pub mod Counts
 pub mod Device
 pub mod Entries
 pub mod Fills
+pub mod Kept
 pub mod Tables
-pub mod Laid
-pub mod After
-pub mod Places
-pub mod Stored

@@ -1,7 +1,7 @@
 // What each call of a table answers and changes.
 ghost use Rattle.std.specs.Prelude.{◌≡◌};
 ghost use Rattle.table_mmd.specs.Device.{meaning_of};
-ghost use Rattle.table_mmd.specs.Laid.{keeps_of};
+ghost use Rattle.table_mmd.specs.Kept.{keeps_of};
 
 use crate::change::{Finished, Moved, Reset, Written, read_all};
 use crate::counters::{ReadAt, ResetCounter, counted};

@@ -1,6 +1,6 @@
 use Rattle.std.proofs.Common.{refl, arith}
 use Rattle.joining.specs.Words.{latch_joined}
-use Rattle.joining.specs.WordsLemmas.{latch_joined_fits}
+use Rattle.joining.proofs.Words.{latch_joined_fits}
 use Rattle.joining.proofs.latch.LatchWordJoining.join.Goals as goal
 
 pub returns : goal.returns

@@ -9,8 +9,8 @@ use Rattle.mmd.specs.Refusals.{count_answer}
 use Rattle.table_mmd.specs.Counts.{slot_counted}
 use Rattle.rows.specs.Slots.{empty_slot, field_of}
 use Rattle.table_mmd.specs.Tables.{Laid, table_meaning}
-use Rattle.table_mmd.specs.After.{count_means}
-use Rattle.table_mmd.specs.Laid.{all_fits_of, narrow_of, narrow_at, slots_of, count_laid}
+use Rattle.table_mmd.proofs.After.{count_means}
+use Rattle.table_mmd.proofs.Laid.{all_fits_of, narrow_of, narrow_at, slots_of, count_laid}
 use Rattle.table_mmd.proofs.calls.TableMmdMmd.count.Goals as goal
 
 pub returns-then-place-ge16 : goal.returns-then-place-ge16

@@ -3,9 +3,9 @@ use mathlib.Core.Logic.{∥∥₁_map}
 use Rattle.std.specs.List.{AllByRecursion as All}
 use Rattle.table_mmd.specs.Changes.{finish_bit}
 use Rattle.table_mmd.specs.Tables.{Laid, table_meaning}
-use Rattle.table_mmd.specs.After.{finish_means}
-use Rattle.table_mmd.specs.Laid.{all_fits_of, finish_laid}
-use Rattle.table_mmd.specs.Places.{Fits}
+use Rattle.table_mmd.proofs.After.{finish_means}
+use Rattle.table_mmd.proofs.Laid.{all_fits_of, finish_laid}
+use Rattle.table_mmd.proofs.Places.{Fits}
 use Rattle.table_mmd.proofs.Walked.{walked}
 use Rattle.mmd.specs.Refusals.{finish_answer}
 use Rattle.mmd.specs.Cells.{is_self_clearing}

@@ -2,8 +2,8 @@ use Rattle.std.proofs.Common.{vec_items, ap, ◌∙◌, subst, ap₂}
 use mathlib.Core.Logic.{∥∥₁_map}
 use Rattle.table_mmd.specs.Changes.{relatch}
 use Rattle.table_mmd.specs.Tables.{table_meaning}
-use Rattle.table_mmd.specs.After.{read_means}
-use Rattle.table_mmd.specs.Laid.{all_fits_of, any_slot, apart_of, fits_of, laid_as, read_laid}
+use Rattle.table_mmd.proofs.After.{read_means}
+use Rattle.table_mmd.proofs.Laid.{all_fits_of, any_slot, apart_of, fits_of, laid_as, read_laid}
 use Rattle.table_mmd.proofs.Walked.{walked}
 use Rattle.table_mmd.specs.Entries.{HasBits, all_fit, any_shows}
 use Rattle.table_mmd.proofs.Shown.{read_word_is}

@@ -3,9 +3,9 @@ use mathlib.Core.Logic.{∥∥₁_map}
 use Rattle.std.specs.List.{AllByRecursion as All}
 use Rattle.table_mmd.specs.Changes.{reset_row}
 use Rattle.table_mmd.specs.Tables.{table_meaning}
-use Rattle.table_mmd.specs.After.{reset_means}
-use Rattle.table_mmd.specs.Laid.{all_fits_of, any_slot, laid_as, reset_laid}
-use Rattle.table_mmd.specs.Places.{Fits}
+use Rattle.table_mmd.proofs.After.{reset_means}
+use Rattle.table_mmd.proofs.Laid.{all_fits_of, any_slot, laid_as, reset_laid}
+use Rattle.table_mmd.proofs.Places.{Fits}
 use Rattle.table_mmd.proofs.Walked.{walked}
 use Rattle.table_mmd.proofs.calls.TableMmdMmd.reset.Goals as goal
 

@@ -3,9 +3,9 @@ use mathlib.Core.Logic.{∥∥₁_map}
 use Rattle.std.specs.List.{AllByRecursion as All}
 use Rattle.table_mmd.specs.Changes.{write_row}
 use Rattle.table_mmd.specs.Tables.{Laid, table_meaning}
-use Rattle.table_mmd.specs.After.{write_means}
-use Rattle.table_mmd.specs.Laid.{all_fits_of, write_laid}
-use Rattle.table_mmd.specs.Places.{Fits}
+use Rattle.table_mmd.proofs.After.{write_means}
+use Rattle.table_mmd.proofs.Laid.{all_fits_of, write_laid}
+use Rattle.table_mmd.proofs.Places.{Fits}
 use Rattle.table_mmd.proofs.Walked.{walked}
 use Rattle.table_mmd.proofs.calls.TableMmdMmd.write.Goals as goal
 

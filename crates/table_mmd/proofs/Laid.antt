@@ -9,7 +9,6 @@ use Rattle.std.proofs.lemmas.List.{length-map}
 use Rattle.std.proofs.lemmas.Bool.{and_from, and_parts}
 use Rattle.bits.specs.Bits.{SetsBit}
 use Rattle.mmd.proofs.Kept.{read_keeps, write_keeps, line_keeps, count_keeps, finish_keeps, reset_keeps}
-use Rattle.mmd.proofs.Unique.{keeps_unique}
 use Rattle.mmd.specs.Invariant.{Keeps}
 use Rattle.mmd.specs.Meaning.{Meaning}
 use Rattle.table_mmd.specs.Changes.{relatch, write_row, move_line, finish_bit, reset_row}
@@ -23,10 +22,10 @@ use Rattle.table_mmd.specs.Tables.{Laid, table_meaning}
 use Rattle.table_mmd.specs.declared.entry.Entry.{Entry}
 use Rattle.rows.specs.declared.row.Row.{Row}
 use Rattle.rows.specs.declared.slot.CounterSlot.{CounterSlot}
-use Rattle.table_mmd.specs.After.{read_means, write_means, line_means, count_means, finish_means, reset_means}
+use Rattle.table_mmd.proofs.After.{read_means, write_means, line_means, count_means, finish_means, reset_means}
 use Rattle.rows.proofs.Disjoint.{rising_apart}
-use Rattle.table_mmd.specs.Places.{Fits, relatch_acts, write_acts, line_acts, finish_acts, reset_acts}
-use Rattle.table_mmd.specs.Stored.{rows_stay}
+use Rattle.table_mmd.proofs.Places.{Fits, relatch_acts, write_acts, line_acts, finish_acts, reset_acts}
+use Rattle.table_mmd.proofs.Stored.{rows_stay}
 
 -- ---- what comes out of the invariant
 
@@ -57,9 +56,6 @@ module _ {es : List Entry} {lines : ℕ} {slots : List CounterSlot} (laid : ∥ 
   -- no two of its rows share a bit
   pub apart_of : Pairwise Apart (rows_of es)
   apart_of = rising_apart (rows_of es) (rows_all (rows_of es) fits_of) rises_of
-
-  pub keeps_of : Keeps (table_meaning es lines slots)
-  keeps_of = ∥∥₁_elim laid (keeps_unique _) (λ l. l.keeps)
 
 pub narrow_at : (slots : List CounterSlot) (k : ℕ) → all_narrow slots ≡ true → narrow_short (get_or slots k empty_slot).places.short ≡ true
 narrow_at [] k narrow = refl

@@ -14,7 +14,7 @@ use Rattle.table_mmd.specs.declared.entry.Entry.{Entry}
 use Rattle.rows.specs.declared.row.Content.{Content}
 use Rattle.rows.specs.declared.row.Content.TheVariants.{Fixed, Follower, LatchingHigh, LatchingLow, Setting, SelfClearing, ShortCounter, HighHalf, LowHalf, Unknown}
 use Rattle.rows.proofs.Spans.{span_within, span_one_bit}
-use Rattle.table_mmd.specs.Stored.{Acts}
+use Rattle.table_mmd.proofs.Stored.{Acts}
 
 abbrev pub Fits : Entry → Type 0
 Fits e = span_fits e.row ≡ true

@@ -18,8 +18,8 @@ use Rattle.rows.specs.Slots.{empty_slot, field_of}
 use Rattle.table_mmd.specs.Tables.{stored_of, table_meaning}
 use Rattle.table_mmd.specs.declared.entry.Entry.{Entry}
 use Rattle.rows.specs.declared.slot.CounterSlot.{CounterSlot}
-use Rattle.table_mmd.specs.Places.{Fits, relatch_acts, write_acts, line_acts, finish_acts, reset_acts}
-use Rattle.table_mmd.specs.Stored.{Acts, get_d_map, rows_stay, stored_after}
+use Rattle.table_mmd.proofs.Places.{Fits, relatch_acts, write_acts, line_acts, finish_acts, reset_acts}
+use Rattle.table_mmd.proofs.Stored.{Acts, get_d_map, rows_stay, stored_after}
 
 -- one counter of them counted
 counted_at : (slots : List CounterSlot) (k amount : ℕ) → k < length slots → (j : ℕ)

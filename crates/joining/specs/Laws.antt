@@ -1,28 +1,12 @@
--- The laws of the two joinings, and what joined words hold.
-use Rattle.std.specs.Prelude.{◌≡◌, ℕ, zero, suc, ◌+◌, ◌^◌, ◌<◌, ◌≤◌, min, ◌&&◌, ◌||◌, refl}
+-- OR and AND are associative, and their empty words change nothing: the laws of the latch joining.
+use Rattle.std.specs.Prelude.{◌≡◌, ℕ, zero, suc, ◌+◌, ◌^◌, ◌<◌, ◌≤◌}
 use Rattle.std.proofs.Common.{ap, ap₂, ◌∙◌, arith, lt_of_lt_of_le, mod-eq_of_lt, pow-suc, pow_mono}
 use Rattle.std.specs.Int.Bits.{bit_and, bit_or, and_lt, or_zero_r}
-use Rattle.std.proofs.lemmas.Nat.{and_comm, and_le_l, and_mask, or_lt}
+use Rattle.std.proofs.lemmas.Nat.{and_comm, and_mask, or_lt}
 use Rattle.std.proofs.lemmas.Bool.Decides.{nat_tests}
-use Rattle.bits.specs.Bits.{bit}
 use Rattle.bits.proofs.Bits.{bit_of_and, bit_of_or, same_bits}
-use Rattle.joining.specs.Words.{count_joined, latch_empty, LatchFits, latch_joined}
-use Rattle.joining.specs.declared.count.CountWord.{CountWord}
+use Rattle.joining.specs.Words.{latch_empty, LatchFits, latch_joined}
 use Rattle.joining.specs.declared.latch.LatchWord.{LatchWord}
-
--- ---- what joined words hold
-
-pub any_joined : (a b : LatchWord) (k : ℕ) → bit (latch_joined a b).any k ≡ (bit a.any k || bit b.any k)
-unfolding latch_joined
-any_joined a b k = bit_of_or a.any b.any k
-
-pub all_joined : (a b : LatchWord) (k : ℕ) → bit (latch_joined a b).all k ≡ (bit a.all k && bit b.all k)
-unfolding latch_joined
-all_joined a b k = bit_of_and a.all b.all k
-
-pub sum_joined : (a b : CountWord) → (count_joined a b).sum ≡ min 4294967295 (a.sum + b.sum)
-unfolding count_joined
-sum_joined a b = refl
 
 -- ---- OR and AND are associative
 
@@ -55,11 +39,6 @@ and_assoc a b c =
 
 abbrev latch_of : ℕ → ℕ → LatchWord
 latch_of any all = record { any = any; all = all }
-
-pub latch_joined_fits : (a b : LatchWord) → LatchFits a → LatchFits b → LatchFits (latch_joined a b)
-unfolding latch_joined
-latch_joined_fits a b p q =
-    let any = or_lt 16 a.any b.any (omega arith) (omega arith) in let all = and_le_l a.all b.all in (omega arith, omega arith)
 
 pub latch_assoc : (a b c : LatchWord) → latch_joined (latch_joined a b) c ≡ latch_joined a (latch_joined b c)
 unfolding latch_joined
