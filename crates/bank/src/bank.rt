@@ -3,7 +3,7 @@ ghost use Rattle.std.specs.Prelude.{◌≡◌, min, List, length};
 ghost use Rattle.bank.specs.Deeds.{after_at, done_at};
 ghost use Rattle.bank.specs.Slots.{SlotMeaning, earliest, has_port, is_at, numbered};
 ghost use Rattle.mmd.specs.Invariant.{Keeps};
-ghost use Rattle.std.specs.List.{AllByRecursion as All};
+ghost use Rattle.std.specs.List.{AllByRecursion};
 
 use crate::deed::{Deed, Done};
 
@@ -27,5 +27,5 @@ pub trait Bank {
         ensures answer { result ≡ done_at slot deed (slots self.old) }
         ensures after { slots self.new ≡ after_at slot deed (slots self.old) };
 
-    ghost mmds_keep_invariant: { (b : Self) → All (λ s. Keeps s.mmd) (slots b) };
+    ghost mmds_keep_invariant: { (b : Self) → AllByRecursion (λ s. Keeps s.mmd) (slots b) };
 }

@@ -1,7 +1,7 @@
 -- Where a deed leaves the search and the other slots: below the laws by address.
 use Rattle.std.proofs.Common.{◌≡◌, ℕ, zero, suc, ◌<◌, Bool, true, false, cond, ◌&&◌, eqb, List, [], ◌∷◌, map, length, is_ok, Some, None, Option, refl, ap, subst, ap₂, arith}
 use Rattle.std.proofs.lemmas.Bool.Decides.{nat_tests}
-use Rattle.std.specs.List.{AllByRecursion as All}
+use Rattle.std.specs.List.{AllByRecursion}
 use Rattle.bank.proofs.Sides.{Below, earliest_below}
 use Rattle.bank.specs.Deeds.{after_at, after_deed, done, done_at}
 use Rattle.bank.specs.Slots.{SlotMeaning, earliest, has_port, is_at, next_place, numbered}
@@ -145,7 +145,7 @@ stands (suc n) (s ∷ ss) within = stands n ss (omega arith)
 
 -- ---- what every MMD keeps
 
-pub found_of_keeps : (n : ℕ) (slots : List SlotMeaning) (m : Meaning) → All (λ s. Keeps s.mmd) slots → mmd_at n slots ≡ found m → Keeps m
+pub found_of_keeps : (n : ℕ) (slots : List SlotMeaning) (m : Meaning) → AllByRecursion (λ s. Keeps s.mmd) slots → mmd_at n slots ≡ found m → Keeps m
 found_of_keeps n [] m keeps e = let z : ◌≡◌ {A = ℕ} 0 1 = cc in absurd (omega arith)
 found_of_keeps zero (s ∷ ss) m keeps e = let same : s.mmd ≡ m = cc in subst Keeps same keeps.0
 found_of_keeps (suc n) (s ∷ ss) m keeps e = found_of_keeps n ss m keeps.1 e
@@ -167,7 +167,7 @@ deed_keeps (Finish r b) s keeps =
     either_keeps (is_ok (finish_answer s.mmd r b)) (after_finish s.mmd r b) s.mmd (finish_keeps s.mmd keeps r b) keeps
 deed_keeps Reset s keeps = reset_keeps s.mmd keeps
 
-pub after_at_keeps : (n : ℕ) (deed : Deed) (slots : List SlotMeaning) → All (λ s. Keeps s.mmd) slots → All (λ s. Keeps s.mmd) (after_at n deed slots)
+pub after_at_keeps : (n : ℕ) (deed : Deed) (slots : List SlotMeaning) → AllByRecursion (λ s. Keeps s.mmd) slots → AllByRecursion (λ s. Keeps s.mmd) (after_at n deed slots)
 after_at_keeps n deed [] keeps = tt
 after_at_keeps zero deed (s ∷ ss) keeps = (deed_keeps deed s keeps.0, keeps.1)
 after_at_keeps (suc n) deed (s ∷ ss) keeps = (keeps.0, after_at_keeps n deed ss keeps.1)

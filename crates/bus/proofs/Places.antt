@@ -1,6 +1,6 @@
 -- The laws by address: what is done at one changes the MMD there alone, as said, and leaves every other place.
 use Rattle.std.proofs.Common.{◌≡◌, ℕ, false, cond, List, map, is_ok, Some, None, Ok, Err, Option, Result, sym, refl, ap, ◌∙◌, arith}
-use Rattle.std.specs.List.{AllByRecursion as All}
+use Rattle.std.specs.List.{AllByRecursion}
 use Rattle.bank.specs.Deeds.{after_deed}
 use Rattle.bank.specs.Slots.{SlotMeaning}
 use Rattle.bank.specs.declared.deed.Deed.{Deed}
@@ -124,33 +124,33 @@ absent_is_no_mmd : (port : Option ℕ) (m : Meaning) → absent_place port ≡ f
 absent_is_no_mmd None m e = let z : ◌≡◌ {A = ℕ} 0 1 = cc in omega arith
 absent_is_no_mmd (Some n) m e = let z : ◌≡◌ {A = ℕ} 0 1 = cc in omega arith
 
-place_of_keeps : (port : ℕ) (slots : List SlotMeaning) (at : Option ℕ) (m : Meaning) → All (λ s. Keeps s.mmd) slots → place_of port slots at ≡ found m → Keeps m
+place_of_keeps : (port : ℕ) (slots : List SlotMeaning) (at : Option ℕ) (m : Meaning) → AllByRecursion (λ s. Keeps s.mmd) slots → place_of port slots at ≡ found m → Keeps m
 place_of_keeps port slots None m keeps e = absurd (absent_is_no_mmd _ m e)
 place_of_keeps port slots (Some n) m keeps e = found_of_keeps n slots m keeps e
 
-pub found_keeps : (port device : ℕ) (slots : List SlotMeaning) (m : Meaning) → All (λ s. Keeps s.mmd) slots → place port device slots ≡ found m → Keeps m
+pub found_keeps : (port device : ℕ) (slots : List SlotMeaning) (m : Meaning) → AllByRecursion (λ s. Keeps s.mmd) slots → place port device slots ≡ found m → Keeps m
 unfolding place
 found_keeps port device slots m keeps e = place_of_keeps port slots (slot_at port device slots) m keeps e
 
-after_found_keeps : (deed : Deed) (slots : List SlotMeaning) (at : Option ℕ) → All (λ s. Keeps s.mmd) slots → All (λ s. Keeps s.mmd) (after_found deed slots at)
+after_found_keeps : (deed : Deed) (slots : List SlotMeaning) (at : Option ℕ) → AllByRecursion (λ s. Keeps s.mmd) slots → AllByRecursion (λ s. Keeps s.mmd) (after_found deed slots at)
 after_found_keeps deed slots None keeps = keeps
 after_found_keeps deed slots (Some n) keeps = after_at_keeps n deed slots keeps
 
-pub worked_keeps : (port device : ℕ) (deed : Deed) (slots : List SlotMeaning) → All (λ s. Keeps s.mmd) slots → All (λ s. Keeps s.mmd) (worked port device deed slots)
+pub worked_keeps : (port device : ℕ) (deed : Deed) (slots : List SlotMeaning) → AllByRecursion (λ s. Keeps s.mmd) slots → AllByRecursion (λ s. Keeps s.mmd) (worked port device deed slots)
 unfolding worked
 worked_keeps port device deed slots keeps = after_found_keeps deed slots (slot_at port device slots) keeps
 
-pub register_read_keeps : (port device register : ℕ) (slots : List SlotMeaning) → All (λ s. Keeps s.mmd) slots → All (λ s. Keeps s.mmd) (register_read port device register slots)
+pub register_read_keeps : (port device register : ℕ) (slots : List SlotMeaning) → AllByRecursion (λ s. Keeps s.mmd) slots → AllByRecursion (λ s. Keeps s.mmd) (register_read port device register slots)
 unfolding register_read
 register_read_keeps port device register slots keeps =
     worked_keeps port device Read (worked port device (Address register) slots) (worked_keeps port device (Address register) slots keeps)
 
-pub register_written_keeps : (port device register word : ℕ) (slots : List SlotMeaning) → All (λ s. Keeps s.mmd) slots → All (λ s. Keeps s.mmd) (register_written port device register word slots)
+pub register_written_keeps : (port device register word : ℕ) (slots : List SlotMeaning) → AllByRecursion (λ s. Keeps s.mmd) slots → AllByRecursion (λ s. Keeps s.mmd) (register_written port device register word slots)
 unfolding register_written
 register_written_keeps port device register word slots keeps =
     worked_keeps port device (Write word) (worked port device (Address register) slots) (worked_keeps port device (Address register) slots keeps)
 
-pub event_taken_keeps : (port device : ℕ) (event : Event) (slots : List SlotMeaning) → All (λ s. Keeps s.mmd) slots → All (λ s. Keeps s.mmd) (event_taken port device event slots)
+pub event_taken_keeps : (port device : ℕ) (event : Event) (slots : List SlotMeaning) → AllByRecursion (λ s. Keeps s.mmd) slots → AllByRecursion (λ s. Keeps s.mmd) (event_taken port device event slots)
 unfolding event_taken
 event_taken_keeps port device event slots keeps = worked_keeps port device (event_deed event) slots keeps
 

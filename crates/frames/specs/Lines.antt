@@ -1,6 +1,6 @@
 -- What a line of text holds, with no word of how it is read.
 use Rattle.std.specs.Prelude.{◌≡◌, ℕ, ◌<◌, ◌≤◌, ◌⊎◌, List, [], ◌∷◌, ◌++◌, length}
-use Rattle.std.specs.List.{AllByRecursion as All}
+use Rattle.std.specs.List.{AllByRecursion}
 use Rattle.std.specs.Char.{IsAsciiWhitespace}
 use Rattle.std.specs.Str.Parse.{AllDigits, digits_value}
 use Rattle.frames.specs.Scans.{scanned}
@@ -11,7 +11,7 @@ use Rattle.frames.specs.declared.scan.Scan.TheVariants.{Blank}
 
 -- white space, or nothing
 abbrev pub White : List ℕ → Type 0
-White bytes = All IsAsciiWhitespace bytes
+White bytes = AllByRecursion IsAsciiWhitespace bytes
 
 -- nothing, 0x or 0X
 abbrev pub IsPrefix : List ℕ → Type 0

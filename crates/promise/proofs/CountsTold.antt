@@ -3,7 +3,7 @@ use Rattle.std.proofs.Common.{◌≡◌, ℕ, ◌+◌, ◌<◌, Bool, true, fals
 use lib.ListN.{length-replicate}
 use Rattle.std.proofs.lemmas.List.{get_or-replicate}
 use Rattle.std.proofs.lemmas.Bool.Decides.{nat_tests}
-use Rattle.std.specs.List.{AllByRecursion as All}
+use Rattle.std.specs.List.{AllByRecursion}
 use Rattle.bank.specs.Slots.{SlotMeaning}
 use Rattle.mmd.proofs.Counters.{counter_settled}
 use Rattle.call.specs.declared.call.Call.{Call}
@@ -65,7 +65,7 @@ module _ (e : CountEntry) (i watcher k : ℕ) (below : watcher < 8) where
       under true is = called_tells x.call v (grind (arith, nat_tests))
       under false is = omega arith
 
-  after_tells : (log : Log) (v : CountView) → All (λ x. is_look watcher i x ≡ false) log → would_tell (after v log) ≡ capped (would_tell v + counted e.port e.device k log)
+  after_tells : (log : Log) (v : CountView) → AllByRecursion (λ x. is_look watcher i x ≡ false) log → would_tell (after v log) ≡ capped (would_tell v + counted e.port e.device k log)
   after_tells [] v unlooked = omega arith
   after_tells (x ∷ log) v unlooked =
       let step = by_tells x v unlooked.0 in

@@ -1,6 +1,6 @@
 -- What reading an entry's registers does at each address.
 use Rattle.std.proofs.Common.{◌≡◌, ℕ, false, List, refl, ap, ◌∙◌}
-use Rattle.std.specs.List.{AllByRecursion as All}
+use Rattle.std.specs.List.{AllByRecursion}
 use Rattle.bank.specs.Slots.{SlotMeaning}
 use Rattle.bus.specs.Places.{Place, no_port, no_device, found, place, on_found, register_read, same_address}
 use Rattle.bus.proofs.Places.{place_register_read, place_register_read_elsewhere, register_read_keeps}
@@ -13,7 +13,7 @@ use Rattle.watch_list.specs.declared.entry.Entry.TheVariants.{Latch, Count}
 use Rattle.promise.specs.Rules.{entry_read, place_of}
 
 abbrev pub SlotsKeep : List SlotMeaning → Type 0
-SlotsKeep slots = All (λ s. Keeps s.mmd) slots
+SlotsKeep slots = AllByRecursion (λ s. Keeps s.mmd) slots
 
 -- an MMD after an entry's registers were read
 abbrev pub after_entry : Entry → Meaning → Meaning

@@ -4,7 +4,7 @@ use Rattle.std.proofs.Common.{◌≡◌, ℕ, ◌<◌, Bool, true, false, cond, 
 use lib.ListN.{length-replicate}
 use Rattle.std.proofs.lemmas.List.{get_or-replicate}
 use Rattle.std.proofs.lemmas.Bool.Decides.{nat_tests}
-use Rattle.std.specs.List.{AllByRecursion as All}
+use Rattle.std.specs.List.{AllByRecursion}
 use Rattle.bank.specs.Slots.{SlotMeaning}
 use Rattle.bits.specs.Bits.{bit}
 use Rattle.mmd.specs.Events.{same}
@@ -130,7 +130,7 @@ module _ (e : LatchEntry) (i watcher b l : ℕ) (sense : Bool) (below : watcher 
   abbrev Moment : LatchView → Log → Type 0
   Moment v since = (front : Log) × (back : Log) × (since ≡ front ++ back) × ((after v front).up ≡ true)
 
-  tells_moment : (since : Log) (v : LatchView) → UpStands v → All (λ x. is_look watcher i x ≡ false) since → would_tell (after v since) ≡ true → (would_tell v ≡ true) ⊎ Moment v since
+  tells_moment : (since : Log) (v : LatchView) → UpStands v → AllByRecursion (λ x. is_look watcher i x ≡ false) since → would_tell (after v since) ≡ true → (would_tell v ≡ true) ⊎ Moment v since
   tells_moment [] v holds unlooked told = inl told
   tells_moment (x ∷ since) v holds unlooked told =
       let step = by_tells x v holds unlooked.0 in
@@ -146,24 +146,24 @@ module _ (e : LatchEntry) (i watcher b l : ℕ) (sense : Bool) (below : watcher 
       split true c or = inl refl
       split false c or = inr or
 
-  told_stays : (since : Log) (v : LatchView) → UpStands v → All (λ x. is_look watcher i x ≡ false) since → would_tell v ≡ true → would_tell (after v since) ≡ true
+  told_stays : (since : Log) (v : LatchView) → UpStands v → AllByRecursion (λ x. is_look watcher i x ≡ false) since → would_tell v ≡ true → would_tell (after v since) ≡ true
   told_stays [] v holds unlooked told = told
   told_stays (x ∷ since) v holds unlooked told =
       let step = by_tells x v holds unlooked.0 in
       told_stays since (by x v) step.1 unlooked.1 (step.0 ∙ ap (λ t. t || (by x v).up) told)
 
-  moment_tells : (front back : Log) (v : LatchView) → UpStands v → All (λ x. is_look watcher i x ≡ false) (front ++ back) → (after v front).up ≡ true → would_tell (after v (front ++ back)) ≡ true
+  moment_tells : (front back : Log) (v : LatchView) → UpStands v → AllByRecursion (λ x. is_look watcher i x ≡ false) (front ++ back) → (after v front).up ≡ true → would_tell (after v (front ++ back)) ≡ true
   moment_tells [] back v holds unlooked up = told_stays back v holds unlooked (let st = holds up in grind (arith, nat_tests))
   moment_tells (x ∷ front) back v holds unlooked up =
       moment_tells front back (by x v) (by_tells x v holds unlooked.0).1 unlooked.1 up
 
   -- of a fresh view: the watcher is told exactly by the moments since
-  pub told_by_moments : (v : LatchView) → Fresh v → (since : Log) → All (λ x. is_look watcher i x ≡ false) since → (would_tell (after v since) ≡ true) ↔ Moment v since
+  pub told_by_moments : (v : LatchView) → Fresh v → (since : Log) → AllByRecursion (λ x. is_look watcher i x ≡ false) since → (would_tell (after v since) ≡ true) ↔ Moment v since
   told_by_moments v fresh since unlooked =
       let holds : UpStands v = λ up. fresh.1 ∙ up in (
         λ told. ⊎_elim (λ so. ([], since, refl, let o = fresh.0 in let t = fresh.1 in grind (arith, nat_tests))) (λ moment. moment) (tells_moment since v holds unlooked told),
         λ moment. subst (λ log. would_tell (after v log) ≡ true) (sym moment.2)
-            (moment_tells moment.0 moment.1 v holds (subst (All (λ x. is_look watcher i x ≡ false)) moment.2 unlooked) moment.3),
+            (moment_tells moment.0 moment.1 v holds (subst (AllByRecursion (λ x. is_look watcher i x ≡ false)) moment.2 unlooked) moment.3),
       )
 
 -- ---- of every log that follows the rules

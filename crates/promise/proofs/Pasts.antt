@@ -1,6 +1,6 @@
 -- Every look has its past: the watcher's previous look, or set-up, and what came since.
 use Rattle.std.proofs.Common.{◌≡◌, ℕ, Bool, true, false, ◌⊎◌, [], ◌∷◌, ◌++◌, refl, ap, ◌∙◌, inl, inr, append_assoc}
-use Rattle.std.specs.List.{AllByRecursion as All}
+use Rattle.std.specs.List.{AllByRecursion}
 use Rattle.promise.specs.Logs.{Exchange, Log, is_look, Since}
 use Rattle.promise.specs.Promises.{EveryLookHasItsPast}
 
@@ -8,8 +8,8 @@ module _ (watcher i : ℕ) where
   -- a log with no look, or the last look in it and what came after
   abbrev Split : Log → Type 0
   Split log =
-      All (λ x. is_look watcher i x ≡ false) log
-      ⊎ ((past : Log) × (look : Exchange) × (since : Log) × (log ≡ (past ++ (look ∷ [])) ++ since) × (is_look watcher i look ≡ true) × All (λ x. is_look watcher i x ≡ false) since)
+      AllByRecursion (λ x. is_look watcher i x ≡ false) log
+      ⊎ ((past : Log) × (look : Exchange) × (since : Log) × (log ≡ (past ++ (look ∷ [])) ++ since) × (is_look watcher i look ≡ true) × AllByRecursion (λ x. is_look watcher i x ≡ false) since)
 
   split_more : (x : Exchange) (log : Log) → Split log → (look : Bool) → is_look watcher i x ≡ look → Split (x ∷ log)
   split_more x log (inl none) true is = inr ([], x, log, refl, is, none)

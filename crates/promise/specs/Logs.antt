@@ -1,7 +1,7 @@
 -- What happened in a run, in the words of those who work with it: a log of calls with their answers, and what lines,
 -- counts and looks it shows. Nothing here knows how a station works.
 use Rattle.std.specs.Prelude.{◌≡◌, ℕ, ◌+◌, Bool, true, false, cond, ◌&&◌, ◌⊎◌, List, [], ◌∷◌, ◌++◌, Some, None, Option, ◌==◌}
-use Rattle.std.specs.List.{slice_get, AllByRecursion as All}
+use Rattle.std.specs.List.{slice_get, AllByRecursion}
 use Rattle.call.specs.Answers.{is_accepted}
 use Rattle.call.specs.declared.call.Call.{Call}
 use Rattle.call.specs.declared.call.Call.TheVariants.{WatchRead, At}
@@ -88,7 +88,7 @@ FromLook watcher i before =
 -- `since` is what came after that watcher's previous look at the entry, or after set-up where there was none
 pub record Since (watcher i : ℕ) (before since : Log) : Type 0 where
   pub from_look : FromLook watcher i before
-  pub no_look : All (λ x. is_look watcher i x ≡ false) since
+  pub no_look : AllByRecursion (λ x. is_look watcher i x ≡ false) since
 
 -- ---- moments: the end of `before`, and the end of each call since, refused or not (the look itself sets no line, so its
 -- end is no further moment)

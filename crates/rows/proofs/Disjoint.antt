@@ -1,6 +1,6 @@
 -- Rows that rise share no bit.
 use Rattle.std.proofs.Common.{◌≡◌, true, List, [], ◌∷◌, refl, arith}
-use Rattle.std.specs.List.{AllByRecursion as All}
+use Rattle.std.specs.List.{AllByRecursion}
 use Rattle.std.proofs.ByRecursion.{All-weaker}
 use Rattle.std.proofs.lemmas.Bool.{and_parts}
 use Rattle.std.proofs.lemmas.Bool.Decides.{nat_tests}
@@ -18,7 +18,7 @@ in_order_through : (x y z : Row) → span_fits y ≡ true → in_order x y ≡ t
 in_order_through x y z fits first second = let within = span_within y fits in grind (arith, nat_tests)
 
 -- a row comes before all behind it
-before_all : (x : Row) (rest : List Row) → All (λ row. span_fits row ≡ true) rest → rising_after x rest ≡ true → All (λ y. in_order x y ≡ true) rest
+before_all : (x : Row) (rest : List Row) → AllByRecursion (λ row. span_fits row ≡ true) rest → rising_after x rest ≡ true → AllByRecursion (λ y. in_order x y ≡ true) rest
 before_all x [] fit rises = tt
 before_all x (y ∷ rest) fit rises =
     let parts = and_parts (in_order x y) (rising_after y rest) rises in
@@ -29,7 +29,7 @@ rising_behind : (x : Row) (rest : List Row) → rising_after x rest ≡ true →
 rising_behind x [] rises = refl
 rising_behind x (y ∷ rest) rises = (and_parts (in_order x y) (rising_after y rest) rises).1
 
-pub rising_apart : (rows : List Row) → All (λ row. span_fits row ≡ true) rows → rising rows ≡ true → Pairwise Apart rows
+pub rising_apart : (rows : List Row) → AllByRecursion (λ row. span_fits row ≡ true) rows → rising rows ≡ true → Pairwise Apart rows
 rising_apart [] fit rises = tt
 rising_apart (x ∷ rest) fit rises =
     (All-weaker (λ y. in_order x y ≡ true) (Apart x) (apart_from_order x) rest (before_all x rest fit.1 rises), rising_apart rest fit.1 (rising_behind x rest rises))

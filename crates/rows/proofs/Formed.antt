@@ -1,6 +1,6 @@
 -- Rows pass the tests exactly when they form a layout and rise.
 use Rattle.std.proofs.Common.{◌≡◌, ℕ, ◌+◌, ◌≤◌, true, false, ◌&&◌, List, [], ◌∷◌, ◌++◌, length, is_some, None, Option, sym, refl, ◌∙◌, append_assoc, append-nil, arith}
-use Rattle.std.specs.List.{AllByRecursion as All}
+use Rattle.std.specs.List.{AllByRecursion}
 use Rattle.std.proofs.ByRecursion.{All-push, All-weaker}
 use Rattle.std.proofs.lemmas.Bool.{and_parts}
 use Rattle.std.proofs.lemmas.Bool.Decides.{nat_tests}
@@ -17,15 +17,15 @@ use Rattle.rows.proofs.Disjoint.{rising_apart}
 
 -- ---- one row behind others
 
-all_at : (P : Row → Type 0) (xs : List Row) (y : Row) (ys : List Row) → All P (xs ++ (y ∷ ys)) → P y
+all_at : (P : Row → Type 0) (xs : List Row) (y : Row) (ys : List Row) → AllByRecursion P (xs ++ (y ∷ ys)) → P y
 all_at P [] y ys all = all.0
 all_at P (x ∷ xs) y ys all = all_at P xs y ys all.1
 
-pairwise_push : (R : Row → Row → Type 0) (xs : List Row) (y : Row) → Pairwise R xs → All (λ x. R x y) xs → Pairwise R (xs ++ (y ∷ []))
+pairwise_push : (R : Row → Row → Type 0) (xs : List Row) (y : Row) → Pairwise R xs → AllByRecursion (λ x. R x y) xs → Pairwise R (xs ++ (y ∷ []))
 pairwise_push R [] y pairs all = (tt, tt)
 pairwise_push R (x ∷ xs) y pairs all = (All-push (R x) xs y pairs.0 all.0, pairwise_push R xs y pairs.1 all.1)
 
-pairwise_at : (R : Row → Row → Type 0) (xs : List Row) (y : Row) (ys : List Row) → Pairwise R (xs ++ (y ∷ ys)) → All (λ x. R x y) xs
+pairwise_at : (R : Row → Row → Type 0) (xs : List Row) (y : Row) (ys : List Row) → Pairwise R (xs ++ (y ∷ ys)) → AllByRecursion (λ x. R x y) xs
 pairwise_at R [] y ys pairs = tt
 pairwise_at R (x ∷ xs) y ys pairs = (all_at (R x) xs y ys pairs.0, pairwise_at R xs y ys pairs.1)
 
@@ -42,7 +42,7 @@ Passes rows row = WellFormed row × (follows rows row ≡ true) × (taken_as (co
 
 -- what rows have passed
 record Passed (rows : List Row) : Type 0 where
-  well_formed : All WellFormed rows
+  well_formed : AllByRecursion WellFormed rows
   rises : rising rows ≡ true
   no_counter_twice : Pairwise NoCounterTwice rows
 
@@ -115,7 +115,7 @@ passing_parts rows free = grind (arith, nat_tests)
 nothing_passed : Passed []
 nothing_passed = record { well_formed = tt; rises = refl; no_counter_twice = tt }
 
-pub fits_from_well_formed : (rows : List Row) → All WellFormed rows → All (λ row. span_fits row ≡ true) rows
+pub fits_from_well_formed : (rows : List Row) → AllByRecursion WellFormed rows → AllByRecursion (λ row. span_fits row ≡ true) rows
 fits_from_well_formed = All-weaker WellFormed (λ row. span_fits row ≡ true) (λ row h. h.1)
 
 pub passing_forms : (rows : List Row) → fault_of rows ≡ None → FormsLayout rows × (rising rows ≡ true)

@@ -1,6 +1,6 @@
 -- Rows that pass lay every counter out whole, in one place.
 use Rattle.std.proofs.Common.{◌≡◌, ℕ, ◌+◌, ◌-◌, ◌<◌, true, false, ◌⊎◌, List, [], ◌∷◌, is_some, Some, None, Option, sym, refl, ◌∙◌, subst, ⊎_elim, arith}
-use Rattle.std.specs.List.{AllByRecursion as All}
+use Rattle.std.specs.List.{AllByRecursion}
 use Rattle.std.proofs.lemmas.Bool.{cases_Bool, cond-true, cond-false}
 use Rattle.std.proofs.lemmas.Bool.Decides.{nat_tests}
 use Rattle.mmd.specs.Cells.{Cell, Field, blank, short, high_half, low_half, short_field, long_field}
@@ -63,19 +63,19 @@ within_second part p q r b n apart behind = grind (arith, nat_tests)
 within_cases : (part : Part) (p q : Places) (r b n : ℕ) → Within r b n (part_of part (joined p q)) → Within r b n (part_of part p) ⊎ Within r b n (part_of part q)
 within_cases part p q r b n within = grind (arith, nat_tests)
 
-blank_behind : (row : Row) (rest : List Row) (r b : ℕ) → All (Apart row) rest → covers row r b ≡ true → cell_of rest r b ≡ blank
+blank_behind : (row : Row) (rest : List Row) (r b : ℕ) → AllByRecursion (Apart row) rest → covers row r b ≡ true → cell_of rest r b ≡ blank
 blank_behind row [] r b apart here = refl
 blank_behind row (x ∷ rest) r b apart here =
     let beside = apart.0 r b here in let behind = blank_behind row rest r b apart.1 here in grind (arith, nat_tests)
 
-beside_shown : (part : Part) (row : Row) (rest : List Row) (r b k p : ℕ) → All (Apart row) rest → cell_of rest r b ≡ cell_in part k p → covers row r b ≡ false
+beside_shown : (part : Part) (row : Row) (rest : List Row) (r b k p : ℕ) → AllByRecursion (Apart row) rest → cell_of rest r b ≡ cell_in part k p → covers row r b ≡ false
 beside_shown part row rest r b k p apart shown =
     ⊎_elim (λ (here : covers row r b ≡ true). let none = blank_behind row rest r b apart here in grind (arith, nat_tests)) (λ beside. beside) (cases_Bool (covers row r b))
 
 -- ---- every row
 
 -- the cells of a counter's part stand where it is
-placed : (part : Part) (rows : List Row) (r b k p : ℕ) → All (λ row. span_fits row ≡ true) rows → Pairwise NoCounterTwice rows → cell_of rows r b ≡ cell_in part k p → Within r b p (part_of part (places_of rows k))
+placed : (part : Part) (rows : List Row) (r b k p : ℕ) → AllByRecursion (λ row. span_fits row ≡ true) rows → Pairwise NoCounterTwice rows → cell_of rows r b ≡ cell_in part k p → Within r b p (part_of part (places_of rows k))
 placed part [] r b k p fit once shows = grind (arith, nat_tests)
 placed part (row ∷ rest) r b k p fit once shows =
     ⊎_elim
@@ -85,7 +85,7 @@ placed part (row ∷ rest) r b k p fit once shows =
     (cases_Bool (covers row r b))
 
 -- and a part has all its cells
-whole : (part : Part) (rows : List Row) (r b k p : ℕ) → All (λ row. span_fits row ≡ true) rows → Pairwise Apart rows → Within r b p (part_of part (places_of rows k)) → cell_of rows r b ≡ cell_in part k p
+whole : (part : Part) (rows : List Row) (r b k p : ℕ) → AllByRecursion (λ row. span_fits row ≡ true) rows → Pairwise Apart rows → Within r b p (part_of part (places_of rows k)) → cell_of rows r b ≡ cell_in part k p
 whole part [] r b k p fit apart within = grind (arith, nat_tests)
 whole part (row ∷ rest) r b k p fit apart within =
     ⊎_elim
@@ -144,13 +144,13 @@ module _ (rows : List Row) (forms : FormsLayout rows) where
 pub passing_sound : (rows : List Row) → fault_of rows ≡ None → Sound (layout_of rows)
 passing_sound rows free = forms_sound rows (passing_forms rows free).0
 
-pub passing_fits : (rows : List Row) → fault_of rows ≡ None → All (λ row. span_fits row ≡ true) rows
+pub passing_fits : (rows : List Row) → fault_of rows ≡ None → AllByRecursion (λ row. span_fits row ≡ true) rows
 passing_fits rows free = fits_from_well_formed rows (passing_forms rows free).0.well_formed
 
 pub passing_rises : (rows : List Row) → fault_of rows ≡ None → rising rows ≡ true
 passing_rises rows free = (passing_forms rows free).1
 
-fitting_narrow : (rows : List Row) → All (λ row. span_fits row ≡ true) rows → (k : ℕ) → narrow_short (places_of rows k).short ≡ true
+fitting_narrow : (rows : List Row) → AllByRecursion (λ row. span_fits row ≡ true) rows → (k : ℕ) → narrow_short (places_of rows k).short ≡ true
 unfolding span_fits
 fitting_narrow [] fit k = refl
 fitting_narrow (row ∷ rest) fit k = let behind = fitting_narrow rest fit.1 k in grind (arith, nat_tests)

@@ -1,6 +1,6 @@
 -- When rows form a layout, in the rules' own words.
 use Rattle.std.specs.Prelude.{◌≡◌, ℕ, true, false, ◌&&◌, List, [], ◌∷◌, is_some}
-use Rattle.std.specs.List.{AllByRecursion as All}
+use Rattle.std.specs.List.{AllByRecursion}
 use Rattle.rows.specs.Checks.{kind_listed, number_fits, place_in, places_of}
 use Rattle.rows.specs.Rows.{covers, span_fits}
 use Rattle.rows.specs.Slots.{nowhere}
@@ -27,11 +27,11 @@ NoCounterTwice x y = (k : ℕ) → HalvesAtMost (place_in x k) (place_in y k)
 -- what holds of every row and each one behind it
 abbrev pub Pairwise : (Row → Row → Type 0) → List Row → Type 0
 Pairwise R [] = Unit {0}
-Pairwise R (x ∷ xs) = All (R x) xs × Pairwise R xs
+Pairwise R (x ∷ xs) = AllByRecursion (R x) xs × Pairwise R xs
 
 -- each row is well formed, no bit is shared, and a counter number has one short field, or one of each half, or nothing
 pub record FormsLayout (rows : List Row) : Type 0 where
-  pub well_formed : All WellFormed rows
+  pub well_formed : AllByRecursion WellFormed rows
   pub no_bit_shared : Pairwise Apart rows
   pub no_counter_twice : Pairwise NoCounterTwice rows
   pub halves_paired : (k : ℕ) → is_some (places_of rows k).high ≡ is_some (places_of rows k).low

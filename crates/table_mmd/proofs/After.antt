@@ -2,7 +2,7 @@
 use Rattle.std.specs.Prelude.{◌≡◌, ℕ, ◌+◌, ◌<◌, ◌≤◌, min, Bool, true, false, cond, ◌&&◌, List, map, length, get_or, ◌==◌, nat_lt, slice_index_or, slice_set}
 use Rattle.std.proofs.Math.Path.{refl, sym, ap}
 use Rattle.std.proofs.Common.{◌∙◌, ⊎_elim}
-use Rattle.std.specs.List.{AllByRecursion as All}
+use Rattle.std.specs.List.{AllByRecursion}
 use Rattle.std.proofs.lemmas.List.{get_or-set_same, get_or-set_other}
 use Rattle.std.proofs.lemmas.Bool.{and_right, cases_eq, cond-true, cond-false, eq-eqb, ne_eqb, le-ltb, lt-ltb}
 use Rattle.mmd.proofs.Equal.{same_meaning}
@@ -57,7 +57,7 @@ after_change es lines slots g h =
       held = λ k. (h (slice_index_or slots k empty_slot)).counter.held;
     }
 
-module _ (es : List Entry) (fit : All Fits es) (lines : ℕ) (slots : List CounterSlot) where
+module _ (es : List Entry) (fit : AllByRecursion Fits es) (lines : ℕ) (slots : List CounterSlot) where
   rows_changed : {f : Entry → Entry} {g : ℕ → ℕ → Cell → Bool → Bool} → Acts Fits f g → table_meaning (map f es) lines slots ≡ after_change es lines slots g (λ s. s)
   unfolding table_meaning after_change
   rows_changed {f} acts = λ i.

@@ -1,7 +1,7 @@
 -- A table that has just been filled: nothing has happened to it, and it keeps what every table keeps.
 use Rattle.std.proofs.Common.{◌≡◌, ℕ, zero, suc, true, false, List, [], ◌∷◌, map, get_or, None, sym, refl, ap, ◌∙◌, subst}
 use mathlib.Core.Path.{fun_ext}
-use Rattle.std.specs.List.{AllByRecursion as All}
+use Rattle.std.specs.List.{AllByRecursion}
 use Rattle.std.proofs.lemmas.Bool.{and_from}
 use Rattle.bits.proofs.Bits.{bit_zero}
 use Rattle.mmd.specs.Meaning.{default_state, new_meaning}
@@ -30,7 +30,7 @@ rows_of_bare : (rows : List Row) → rows_of (map bare rows) ≡ rows
 rows_of_bare [] = refl
 rows_of_bare (row ∷ rows) = ap (λ rest. row ∷ rest) (rows_of_bare rows)
 
-bare_fits : (rows : List Row) → All (λ row. span_fits row ≡ true) rows → All Fits (map bare rows)
+bare_fits : (rows : List Row) → AllByRecursion (λ row. span_fits row ≡ true) rows → AllByRecursion Fits (map bare rows)
 bare_fits [] fit = tt
 bare_fits (row ∷ rows) fit = (fit.0, bare_fits rows fit.1)
 
@@ -42,7 +42,7 @@ rows_of_new : (rows : List Row) → rows_of (map new_entry rows) ≡ rows
 rows_of_new [] = refl
 rows_of_new (row ∷ rows) = ap (λ rest. row ∷ rest) (rows_of_new rows)
 
-pub new_means : (rows : List Row) (slots : List CounterSlot) → All (λ row. span_fits row ≡ true) rows → SlotsOf rows slots → table_meaning (map new_entry rows) 0 slots ≡ new_meaning (layout_of rows)
+pub new_means : (rows : List Row) (slots : List CounterSlot) → AllByRecursion (λ row. span_fits row ≡ true) rows → SlotsOf rows slots → table_meaning (map new_entry rows) 0 slots ≡ new_meaning (layout_of rows)
 unfolding table_meaning new_meaning layout_of
 new_means rows slots fit placed =
     ap (λ es. table_meaning es 0 slots) (new_from_bare rows)
@@ -64,7 +64,7 @@ narrow_from : (slots : List CounterSlot) → ((k : ℕ) → narrow_short (get_or
 narrow_from [] each = refl
 narrow_from (s ∷ ss) each = and_from _ _ (each zero) (narrow_from ss (λ k. each (suc k)))
 
-fit_from : (rows : List Row) → All (λ row. span_fits row ≡ true) rows → rows_fit rows ≡ true
+fit_from : (rows : List Row) → AllByRecursion (λ row. span_fits row ≡ true) rows → rows_fit rows ≡ true
 fit_from [] fit = refl
 fit_from (row ∷ rows) fit = and_from _ _ fit.0 (fit_from rows fit.1)
 

@@ -4,7 +4,7 @@ use Rattle.std.proofs.Common.{sym, ap, ap₂, subst, ◌∙◌, length-set}
 use Rattle.std.proofs.Math.Bool.{Bool-set}
 use Rattle.std.proofs.Math.Logic.{∥∥₁_elim}
 use Rattle.std.proofs.Math.Nat.{ℕ_set}
-use Rattle.std.specs.List.{AllByRecursion as All}
+use Rattle.std.specs.List.{AllByRecursion}
 use Rattle.std.proofs.lemmas.List.{length-map}
 use Rattle.std.proofs.lemmas.Bool.{and_from, and_parts}
 use Rattle.bits.specs.Bits.{SetsBit}
@@ -29,11 +29,11 @@ use Rattle.table_mmd.proofs.Stored.{rows_stay}
 
 -- ---- what comes out of the invariant
 
-pub all_fits : (es : List Entry) → all_fit es ≡ true → All Fits es
+pub all_fits : (es : List Entry) → all_fit es ≡ true → AllByRecursion Fits es
 all_fits [] fit = tt
 all_fits (e ∷ es) fit = let parts = and_parts _ _ fit in (parts.0, all_fits es parts.1)
 
-rows_all : (rows : List Row) → rows_fit rows ≡ true → All (λ row. span_fits row ≡ true) rows
+rows_all : (rows : List Row) → rows_fit rows ≡ true → AllByRecursion (λ row. span_fits row ≡ true) rows
 rows_all [] fit = tt
 rows_all (row ∷ rows) fit = let parts = and_parts _ _ fit in (parts.0, rows_all rows parts.1)
 
@@ -41,7 +41,7 @@ module _ {es : List Entry} {lines : ℕ} {slots : List CounterSlot} (laid : ∥ 
   pub fits_of : all_fit es ≡ true
   fits_of = ∥∥₁_elim laid (Bool-set _ _) (λ l. l.fits)
 
-  pub all_fits_of : All Fits es
+  pub all_fits_of : AllByRecursion Fits es
   all_fits_of = all_fits es fits_of
 
   pub narrow_of : all_narrow slots ≡ true
@@ -68,7 +68,7 @@ laid_as lines {es} {es'} {slots} {slots'} rows counters laid =
     subst (λ l. ∥ Laid l lines slots' ∥₁) (sym rows) (subst (λ l. ∥ Laid es lines l ∥₁) (sym counters) laid)
 
 -- a change that may be asked of every counter
-pub any_slot : (slots : List CounterSlot) → All (λ _. Unit {0}) slots
+pub any_slot : (slots : List CounterSlot) → AllByRecursion (λ _. Unit {0}) slots
 any_slot [] = tt
 any_slot (s ∷ ss) = (tt, any_slot ss)
 
@@ -97,7 +97,7 @@ kept_so es es' lines lines' slots slots' m rows narrow long means keeps laid =
     }
 
 module _ (es : List Entry) (lines : ℕ) (slots : List CounterSlot) (laid : Laid es lines slots) where
-  fit : All Fits es
+  fit : AllByRecursion Fits es
   fit = all_fits es laid.fits
 
   pub read_laid : (r : ℕ) → Laid (map (relatch lines r) es) lines (map (slot_read r) slots)

@@ -1,6 +1,6 @@
 -- What the rows show together is what the table's meaning shows, where no two rows share a bit.
 use Rattle.std.proofs.Common.{◌≡◌, ℕ, ◌-◌, ◌<◌, Bool, true, false, cond, ◌&&◌, ◌||◌, List, [], ◌∷◌, sym, refl, ap, ◌∙◌, mod-eq_of_lt}
-use Rattle.std.specs.List.{AllByRecursion as All}
+use Rattle.std.specs.List.{AllByRecursion}
 use Rattle.std.proofs.lemmas.Bool.{and_left, or_from}
 use Rattle.bits.specs.Bits.{bit}
 use Rattle.bits.proofs.Bits.{gathered_alike, gathered_own}
@@ -32,7 +32,7 @@ module _ (all : List Entry) (lines : ℕ) (slots : List CounterSlot) where
   shows_at Unknown s p = refl
 
   -- no row behind shows a bit that a row covers
-  none_behind : (row : Row) (es : List Entry) (r b : ℕ) → All (Apart row) (rows_of es) → covers row r b ≡ true → any_shows lines slots r es b ≡ false
+  none_behind : (row : Row) (es : List Entry) (r b : ℕ) → AllByRecursion (Apart row) (rows_of es) → covers row r b ≡ true → any_shows lines slots r es b ≡ false
   none_behind row [] r b apart here = refl
   none_behind row (e ∷ es) r b apart here =
       or_from _ _ (and_left (covers e.row r b) _ (apart.0 r b here)) (none_behind row es r b apart.1 here)

@@ -1,7 +1,7 @@
 -- A change of every row's state, seen at a register and bit.
 use Rattle.std.specs.Prelude.{◌≡◌, ℕ, zero, suc, ◌-◌, Bool, true, false, cond, List, [], ◌∷◌, map, slice_index_or, refl}
 use Rattle.std.proofs.Common.{sym, ap, ap₂, ◌∙◌}
-use Rattle.std.specs.List.{AllByRecursion as All}
+use Rattle.std.specs.List.{AllByRecursion}
 use Rattle.mmd.specs.Cells.{Cell, blank}
 use Rattle.table_mmd.specs.Entries.{rows_of, stored_at}
 use Rattle.rows.specs.Rows.{cell_at, cell_of, content_of, covers}
@@ -31,7 +31,7 @@ by_cover true c' h x y s ss cell cells e here beside = ap (λ v. cond v x y) e �
 by_cover false c' h x y s ss cell cells e here beside = ap (λ v. cond v x y) e ∙ beside refl
 
 pub stored_after : {ok : Entry → Type 0} {f : Entry → Entry} {g : ℕ → ℕ → Cell → Bool → Bool} → Acts ok f g
-    → (es : List Entry) (r b : ℕ) → All ok es → stored_of (map f es) r b ≡ g r b (cell_of (rows_of es) r b) (stored_of es r b)
+    → (es : List Entry) (r b : ℕ) → AllByRecursion ok es → stored_of (map f es) r b ≡ g r b (cell_of (rows_of es) r b) (stored_of es r b)
 stored_after acts [] r b fit = sym (acts.none_at_blank r b)
 stored_after {f = f} {g = g} acts (e ∷ es) r b fit =
     by_cover (covers e.row r b) (covers (f e).row r b) (g r b) _ _ _ _ _ _ (ap (λ row. covers row r b) (acts.same_row e))

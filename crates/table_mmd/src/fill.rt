@@ -1,6 +1,6 @@
 // Filling a table from rows.
 ghost use Rattle.std.specs.Prelude.{◌≡◌, true, map, IfOk};
-ghost use Rattle.std.specs.List.{AllByRecursion as All};
+ghost use Rattle.std.specs.List.{AllByRecursion};
 ghost use Rattle.table_mmd.specs.Fills.{Filled, PassesExactly, new_entry};
 ghost use Rattle.rows.specs.Rows.{span_fits};
 ghost use Rattle.table_mmd.specs.declared.fill.FillRefusal.TheVariants.{Faulty, Memory};
@@ -54,7 +54,7 @@ impl TableMmd {
 }
 
 fn new_entries(heap: Global, rows: &[Row]) -> Result<Vec<Entry>, AllocError>
-    requires { All (λ row. span_fits row ≡ true) rows.now }
+    requires { AllByRecursion (λ row. span_fits row ≡ true) rows.now }
     ensures { IfOk result (λ v. v.items ≡ map new_entry rows.now) }
 {
     let start = Reset { lines: 0 };

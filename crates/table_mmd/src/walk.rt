@@ -1,6 +1,6 @@
 // One walk that changes every item of a slice, for rows and counters alike.
 ghost use Rattle.std.specs.Prelude.{◌≡◌, map};
-ghost use Rattle.std.specs.List.{AllByRecursion as All};
+ghost use Rattle.std.specs.List.{AllByRecursion};
 
 pub trait Change<T> {
     // the items that it may be asked of
@@ -14,7 +14,7 @@ pub trait Change<T> {
 }
 
 pub fn change_all<T: Copy, C: Change<T>>(items: &mut [T], change: &C)
-    requires { All C.Change.can items.old }
+    requires { AllByRecursion C.Change.can items.old }
     ensures { items.new ≡ map (C.Change.changed change.now) items.old }
 {
     for item in items.iter_mut() {

@@ -7,7 +7,7 @@ use Rattle.trace_format.specs.Lines.{line_of}
 use Rattle.trace_format.specs.Records.{Taken, decode_of, record_of}
 use Rattle.trace_format.specs.declared.line.Line.TheVariants.{Answer as AnswerLine, Stop as StopLine}
 use Rattle.trace_format.specs.declared.refusal.TraceRefusal.{TraceRefusal}
-use Rattle.std.specs.List.{AllByRecursion as All}
+use Rattle.std.specs.List.{AllByRecursion}
 
 -- ---- record by record
 
@@ -43,7 +43,7 @@ ending (Some refusal) = Err refusal
 pub record Spelled (input : List ℕ) (r : Reading) : Type 0 where
   pub tail : List ℕ
   pub whole : input ≡ spelled r.calls ++ tail
-  pub fits : All FitsRecord r.calls
+  pub fits : AllByRecursion FitsRecord r.calls
   pub ends : decode_of tail ≡ ending r.stop
 
 -- ---- the text: a line for each call, and one for what stops them

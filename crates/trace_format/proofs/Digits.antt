@@ -8,7 +8,7 @@ use Rattle.std.proofs.lemmas.Str.{digit_value-digit_char}
 use Rattle.std.proofs.lemmas.Bool.Decides.{nat_tests}
 use Rattle.std.specs.Str.Parse.{digits_value, digits_value_after}
 use Rattle.std.specs.Char.{digit_char}
-use Rattle.std.specs.List.{AllByRecursion as All}
+use Rattle.std.specs.List.{AllByRecursion}
 use Rattle.trace_format.specs.Lines.{digits}
 use Rattle.trace_format.specs.Telling.{Digit}
 
@@ -28,7 +28,7 @@ digits_count base (suc width) n = ap suc (digits_count base width n)
 char_small : (d : ℕ) → d < 16 → Digit (digit_char d)
 char_small d h = grind (arith, nat_tests)
 
-pub digits_small : (base width n : ℕ) → 0 < base → base ≤ 16 → All Digit (digits base width n)
+pub digits_small : (base width n : ℕ) → 0 < base → base ≤ 16 → AllByRecursion Digit (digits base width n)
 digits_small base zero n p h = tt
 digits_small base (suc width) n p h =
     let d : n / base ^ width % base < 16 = omega (arith, mod_below (n / base ^ width) base p) in

@@ -3,7 +3,7 @@ use Rattle.std.proofs.Common.{◌≡◌, ℕ, ◌<◌, ◌≤◌, cond, eqb, Lis
 use Rattle.std.proofs.ByRecursion.{All-weaker}
 use Rattle.std.specs.Str.Parse.{digits_value}
 use Rattle.std.specs.Int.{IsInRange}
-use Rattle.std.specs.List.{AllByRecursion as All}
+use Rattle.std.specs.List.{AllByRecursion}
 use Rattle.call.specs.Answers.{number_of}
 use Rattle.call.specs.declared.answer.Answer.TheVariants.{Data, Told, Done, Refused}
 use Rattle.call.specs.declared.answer.CallRefusal.{CallRefusal}
@@ -36,11 +36,11 @@ printable_digit : (c : ℕ) → Digit c → Printable c
 printable_digit c h = (omega arith, omega arith)
 
 -- a letter, a space and digits
-lettered : (letter base width n : ℕ) → Printable letter → 0 < base → base ≤ 16 → All Printable (letter ∷ 32 ∷ digits base width n)
+lettered : (letter base width n : ℕ) → Printable letter → 0 < base → base ≤ 16 → AllByRecursion Printable (letter ∷ 32 ∷ digits base width n)
 lettered letter base width n l p h =
     (l, ((lit≤ tt, lit≤ tt), All-weaker Digit Printable printable_digit (digits base width n) (digits_small base width n p h)))
 
-pub one_line : (line : Line) → (text : List ℕ) × (line_of line ≡ text ++ newline) × All Printable text
+pub one_line : (line : Line) → (text : List ℕ) × (line_of line ≡ text ++ newline) × AllByRecursion Printable text
 one_line (Answer (Data word)) = (codes "R " ++ digits 16 4 word, refl, lettered 82 16 4 word (lit≤ tt, lit≤ tt) (lit< tt) (lit≤ tt))
 one_line (Answer (Told word)) = (codes "T " ++ digits 16 8 word, refl, lettered 84 16 8 word (lit≤ tt, lit≤ tt) (lit< tt) (lit≤ tt))
 one_line (Answer Done) = (codes "V", refl, ((lit≤ tt, lit≤ tt), tt))

@@ -1,6 +1,6 @@
 use Rattle.std.proofs.Common.{cond, Ok, Err, vec_items, sym, refl, ap, ◌∙◌, subst}
 use mathlib.Core.Logic.{∥∥₁_map}
-use Rattle.std.specs.List.{AllByRecursion as All}
+use Rattle.std.specs.List.{AllByRecursion}
 use Rattle.table_mmd.specs.Changes.{finish_bit}
 use Rattle.table_mmd.specs.Tables.{Laid, table_meaning}
 use Rattle.table_mmd.proofs.After.{finish_means}
@@ -21,7 +21,7 @@ returns-then-not-is_self_clearing c =
     record { answer = ap (λ v. cond v (Ok tt) (Err NotSelfClearing)) clears; after = refl }
 
 pub change_all-requires : goal.change_all-requires
-change_all-requires c = subst (All Fits) (sym c.as_mut_slice.ensures.value) (all_fits_of c.args.self.now.laid)
+change_all-requires c = subst (AllByRecursion Fits) (sym c.as_mut_slice.ensures.value) (all_fits_of c.args.self.now.laid)
 
 pub invariant_of-self : goal.invariant_of-self
 invariant_of-self c =

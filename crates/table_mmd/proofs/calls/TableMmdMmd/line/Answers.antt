@@ -1,6 +1,6 @@
 use Rattle.std.proofs.Common.{vec_items, sym, ap, ◌∙◌, subst, arith}
 use mathlib.Core.Logic.{∥∥₁_map}
-use Rattle.std.specs.List.{AllByRecursion as All}
+use Rattle.std.specs.List.{AllByRecursion}
 use Rattle.table_mmd.specs.Changes.{move_line}
 use Rattle.table_mmd.specs.Tables.{Laid, table_meaning}
 use Rattle.table_mmd.proofs.After.{line_means, no_line_means}
@@ -10,7 +10,7 @@ use Rattle.table_mmd.proofs.Walked.{walked}
 use Rattle.table_mmd.proofs.calls.TableMmdMmd.line.Goals as goal
 
 pub change_all-requires : goal.change_all-requires
-change_all-requires c = subst (All Fits) (sym c.as_mut_slice.ensures.value) (all_fits_of c.args.self.now.laid)
+change_all-requires c = subst (AllByRecursion Fits) (sym c.as_mut_slice.ensures.value) (all_fits_of c.args.self.now.laid)
 
 pub invariant_of-self : goal.invariant_of-self
 invariant_of-self c =

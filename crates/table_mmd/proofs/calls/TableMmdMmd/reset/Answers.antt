@@ -1,6 +1,6 @@
 use Rattle.std.proofs.Common.{vec_items, sym, ◌∙◌, subst, ap₂}
 use mathlib.Core.Logic.{∥∥₁_map}
-use Rattle.std.specs.List.{AllByRecursion as All}
+use Rattle.std.specs.List.{AllByRecursion}
 use Rattle.table_mmd.specs.Changes.{reset_row}
 use Rattle.table_mmd.specs.Tables.{table_meaning}
 use Rattle.table_mmd.proofs.After.{reset_means}
@@ -10,7 +10,7 @@ use Rattle.table_mmd.proofs.Walked.{walked}
 use Rattle.table_mmd.proofs.calls.TableMmdMmd.reset.Goals as goal
 
 pub change_all-requires : goal.change_all-requires
-change_all-requires c = subst (All Fits) (sym c.as_mut_slice.ensures.value) (all_fits_of c.args.self.now.laid)
+change_all-requires c = subst (AllByRecursion Fits) (sym c.as_mut_slice.ensures.value) (all_fits_of c.args.self.now.laid)
 
 pub change_all-requires-2 : goal.change_all-requires-2
 change_all-requires-2 c = any_slot c.args.self.now.slots
