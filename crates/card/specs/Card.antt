@@ -50,9 +50,9 @@ abbrev pub slots_of : Pair (Slot TableMmd) (Slot FecMmd) → List SlotMeaning
 slots_of b = (slot_meaning table.meaning_of b.left ∷ []) ++ (slot_meaning fec.meaning_of b.right ∷ [])
 
 -- the bank is the card's, or there is no memory for its table
-abbrev pub CardBank : Result (Pair (Slot TableMmd) (Slot FecMmd)) FillRefusal → Type 0
-CardBank (Ok b) = slots_of b ≡ card_slots
-CardBank (Err e) = e ≡ Memory
+abbrev pub IsCardBank : Result (Pair (Slot TableMmd) (Slot FecMmd)) FillRefusal → Type 0
+IsCardBank (Ok b) = slots_of b ≡ card_slots
+IsCardBank (Err e) = e ≡ Memory
 
 -- what the watchers' promise covers on the card
 pub record Covered : Type 0 where

@@ -1,5 +1,5 @@
 // The card's bank, a table MMD at port 1, device 1, and the FEC MMD at port 1, device 3; and what is watched of them.
-ghost use Rattle.card.specs.Card.{CardBank, Covered};
+ghost use Rattle.card.specs.Card.{Covered, IsCardBank};
 
 use bank::pair::Pair;
 use bank::slot::Slot;
@@ -49,7 +49,7 @@ pub const WATCH_LIST: [Entry; 2] = [
 
 // The card's bank, to which nothing has happened; it fails only for want of memory.
 pub fn card_bank(heap: Global) -> Result<CardBank, FillRefusal>
-    ensures bank { CardBank result }
+    ensures bank { IsCardBank result }
     ensures covered { Covered }
 {
     let table = TableMmd::fill(heap, &ROWS)?;

@@ -1,5 +1,5 @@
 // What each call of the FEC registers answers and changes.
-ghost use Rattle.std.specs.Prelude.{◌≡◌, ◌+◌, ◌&&◌, ◌||◌, eqb, if◌then◌else◌, ◌==◌};
+ghost use Rattle.std.specs.Prelude.{◌≡◌, ◌+◌, ◌&&◌, ◌||◌, if◌then◌else◌, ◌==◌};
 ghost use Rattle.bits.specs.Bits.{bit};
 ghost use Rattle.fec_mmd.specs.Device.{meaning_of};
 ghost use Rattle.fec_mmd.specs.Layout.{fec_layout};
@@ -86,7 +86,7 @@ impl FecMmd {
 
     // Latched high BER after a read of the register.
     fn latch_after_read(&self, register: u16) -> bool
-        ensures { result ≡ (if eqb register 81 then bit self.now.lines 0 else self.now.high_ber_latch) }
+        ensures { result ≡ (if register == 81 then bit self.now.lines 0 else self.now.high_ber_latch) }
     {
         match register {
             BER_STATUS => self.high_ber(),
@@ -104,7 +104,7 @@ impl FecMmd {
 
 // A counter after a read of the register: its high half takes the count into the held copy.
 fn counter_after_read(counter: Counter, high: u16, register: u16) -> Counter
-    ensures { result ≡ (if eqb register high then (record { value = 0; held = counter.value }) else counter) }
+    ensures { result ≡ (if register == high then (record { value = 0; held = counter.value }) else counter) }
 {
     if register != high {
         return counter;

@@ -1,6 +1,6 @@
 // What a watcher is owed of a counter: the sum of the readings since its last look.
 ghost use Rattle.joining.specs.Words.{count_empty, CountFits, count_joined, count_word};
-ghost use borrow.Author.Rules.{rules};
+ghost use Rattle.std.proofs.Common.{rules};
 
 use crate::joining::Joining;
 

@@ -1,5 +1,5 @@
 -- What an MMD means: its layout, and the state of its lines, bits and counters. Registers, bits, lines and counters go by
--- their numbers; two MMDs of any kinds, of one layout and in one state, have one meaning.
+-- their numbers; two MMDs of any kinds that agree in all of these have one meaning.
 use Rattle.std.specs.Prelude.{ℕ, ◌+◌, Bool, false}
 use Rattle.bits.specs.Bits.{bit, gathered}
 use Rattle.mmd.specs.Cells.{Cell, blank, fixed, follower, latch, setting, self_clearing, short, high_half, low_half, Field}
