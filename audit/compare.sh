@@ -3,9 +3,9 @@
 #
 #     audit/compare.sh [PROGRAM [SEEDS [LENGTH]]]
 #
-# PROGRAM is crates/ring_trace/out/ring_trace of the repository if none is given. SEEDS traces (1000) are made, of LENGTH records
-# (15000) where the sort of trace does not say otherwise, and one of ten million records. It stops at the first
-# difference, with status 1.
+# PROGRAM is crates/ring_trace/out/ring_trace of the repository if none is given. SEEDS traces (1000) are made, of
+# LENGTH records (15000) where the sort of trace does not say otherwise, and one of ten million records. It stops at the
+# first difference, with status 1.
 set -euo pipefail
 export LC_ALL=C
 

@@ -1,4 +1,7 @@
 // What is told of a step, as the end of its line.
+ghost use Rattle.std.specs.Prelude.{◌≡◌};
+ghost use Rattle.bus_cases.specs.Told.{done_told, frame_told, read_told, taken_told};
+
 use bank::deed::Done;
 use bus::answer::{BusAnswer, BusRefusal};
 use std::fmt;
@@ -24,7 +27,9 @@ impl fmt::Display for Told {
     }
 }
 
-pub fn told_frame(answer: BusAnswer) -> Told {
+pub fn told_frame(answer: BusAnswer) -> Told
+    ensures { result ≡ frame_told answer }
+{
     match answer {
         BusAnswer::Data(word) => Told::Word(word),
         BusAnswer::Taken => Told::Taken,
@@ -32,21 +37,27 @@ pub fn told_frame(answer: BusAnswer) -> Told {
     }
 }
 
-pub fn told_read(answer: Result<u16, BusRefusal>) -> Told {
+pub fn told_read(answer: Result<u16, BusRefusal>) -> Told
+    ensures { result ≡ read_told answer }
+{
     match answer {
         Ok(word) => Told::Word(word),
         Err(refusal) => Told::Refused(refusal.number()),
     }
 }
 
-pub fn told_taken(answer: Result<(), BusRefusal>) -> Told {
+pub fn told_taken(answer: Result<(), BusRefusal>) -> Told
+    ensures { result ≡ taken_told answer }
+{
     match answer {
         Ok(()) => Told::Taken,
         Err(refusal) => Told::Refused(refusal.number()),
     }
 }
 
-pub fn told_done(done: Option<Done>) -> Told {
+pub fn told_done(done: Option<Done>) -> Told
+    ensures { result ≡ done_told done }
+{
     match done {
         Some(Done::Data(word)) => Told::Word(word),
         Some(Done::Taken) => Told::Taken,
