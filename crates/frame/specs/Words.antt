@@ -2,7 +2,8 @@
 --
 --   31:30  29:28  27:23  22:18  17:16  15:0
 --   ST     OP     PRTAD  DEVAD  TA     ADDRESS or DATA
-use Rattle.std.specs.Prelude.{ℕ, ◌+◌, ◌*◌, ◌/◌, ◌%◌, ◌^◌, Bool, cond, not, ◌&&◌, Ok, Err, Result, ◌==◌, nat_le, nat_lt}
+use Rattle.std.specs.Prelude.{ℕ, ◌+◌, ◌*◌, ◌/◌, ◌%◌, ◌^◌, Bool, if◌then◌else◌, not, ◌&&◌, Ok, Err, Result, ◌==◌, nat_lt}
+use Rattle.frame.specs.Addresses.{addressable}
 use Rattle.frame.specs.declared.frame.Frame.{Frame}
 use Rattle.frame.specs.declared.frame.Operation.{Operation}
 use Rattle.frame.specs.declared.frame.Operation.TheVariants.{Address, Write, Read, PostReadIncrement}
@@ -47,33 +48,33 @@ low16_of (Write d) = d
 low16_of PostReadIncrement = 0
 low16_of Read = 0
 
--- the word of a frame whose port and device fit
+-- the word of a frame whose address fits
 abbrev pub word_of : Frame → ℕ
 word_of f =
-    op_of f.operation * 2 ^ 28 + f.port * 2 ^ 23 + f.device * 2 ^ 18 + ta_of f.operation * 2 ^ 16
+    op_of f.operation * 2 ^ 28 + f.address.port * 2 ^ 23 + f.address.device * 2 ^ 18 + ta_of f.operation * 2 ^ 16
     + low16_of f.operation
 
 -- what building a frame gives
 unfoldable pub built : Frame → Result ℕ FrameRefusal
-built f = cond (nat_le f.port 31 && nat_le f.device 31) (Ok (word_of f)) (Err AboveThirtyOne)
+built f = if addressable f.address then Ok (word_of f) else Err AboveThirtyOne
 
 -- OP 00 is address, 01 write, 10 post-read-increment and 11 read
 abbrev pub operation_in : ℕ → Operation
 operation_in w =
-    cond (op w == 0) (Address (low16 w)) (cond (op w == 1) (Write (low16 w)) (cond (op w == 2) PostReadIncrement Read))
+    if op w == 0 then Address (low16 w) else if op w == 1 then Write (low16 w) else if op w == 2 then PostReadIncrement else Read
 
 -- an address or a write frame: the station drives the low 18 bits
 abbrev pub drives_low : ℕ → Bool
 drives_low w = nat_lt (op w) 2
 
 abbrev pub frame_in : ℕ → Frame
-frame_in w = record { port = prtad w; device = devad w; operation = operation_in w }
+frame_in w = record { address = record { port = prtad w; device = devad w }; operation = operation_in w }
 
 -- what splitting a word gives: ST is tested first, then TA where the station drives it
 unfoldable pub split_of : ℕ → Result Frame FrameRefusal
 split_of w =
-    cond (st w == 0) (cond (drives_low w && not (ta w == 2)) (Err Turnaround) (Ok (frame_in w))) (Err Start)
+    if st w == 0 then (if drives_low w && not (ta w == 2) then Err Turnaround else Ok (frame_in w)) else Err Start
 
 -- the bits that count: all of an address or write frame, all but the low 18 of a read
 unfoldable pub counting_bits : ℕ → ℕ
-counting_bits w = cond (drives_low w) w (w / 2 ^ 18 * 2 ^ 18)
+counting_bits w = if drives_low w then w else w / 2 ^ 18 * 2 ^ 18

@@ -1,4 +1,5 @@
-// A management frame: the operation, and the port and device that it names.
+// A management frame: the operation, and the address of the MMD that it names.
+use crate::address::MmdAddress;
 
 // The operation of a frame, with the 16 bits that it carries; a read frame carries none.
 #[derive(Clone, Copy, PartialEq, Eq, Debug)]
@@ -11,7 +12,6 @@ pub enum Operation {
 
 #[derive(Clone, Copy, PartialEq, Eq, Debug)]
 pub struct Frame {
-    pub port: u8,
-    pub device: u8,
+    pub address: MmdAddress,
     pub operation: Operation,
 }

@@ -2,10 +2,12 @@
 //
 //   31:30  29:28  27:23  22:18  17:16  15:0
 //   ST     OP     PRTAD  DEVAD  TA     ADDRESS or DATA
-ghost use Rattle.std.specs.Prelude.{◌≡◌, ◌<◌, not, ◌||◌, ◌==◌, nat_le};
+ghost use Rattle.std.specs.Prelude.{◌≡◌, ◌<◌, true, not, ◌||◌, ◌==◌};
+ghost use Rattle.frame.specs.Addresses.{addressable};
 ghost use Rattle.frame.specs.Laws.{SplitsBack, OnlyCountingBitsDecide};
 ghost use Rattle.frame.specs.Words.{built, drives_low, frame_in, low16_of, op_of, operation_in, split_of, st, ta, ta_of, word_of};
 
+use crate::address::MmdAddress;
 use crate::field::Field;
 use crate::frame::{Frame, Operation};
 use crate::refusal::FrameRefusal;
@@ -36,8 +38,6 @@ const TA_DRIVEN: u32 = 0b10;
 
 const TA_RELEASED: u32 = 0b00;
 
-const ADDRESS_MAX: u8 = 31;
-
 // The frame that a word spells.
 pub fn split(word: u32) -> Result<Frame, FrameRefusal>
     ensures result { result ≡ split_of word }
@@ -57,7 +57,7 @@ pub fn build(frame: Frame) -> Result<u32, FrameRefusal>
     ensures result { result ≡ built frame }
     ensures splits_back { SplitsBack frame }
 {
-    if !is_address(frame.port) || !is_address(frame.device) {
+    if !frame.address.is_addressable() {
         return Err(FrameRefusal::Address);
     }
     Ok(word_of(frame))
@@ -80,8 +80,10 @@ fn frame_in(word: u32) -> Frame
     ensures { result ≡ frame_in word }
 {
     Frame {
-        port: PRTAD.of(word) as u8,
-        device: DEVAD.of(word) as u8,
+        address: MmdAddress {
+            port: PRTAD.of(word) as u8,
+            device: DEVAD.of(word) as u8,
+        },
         operation: operation_in(word),
     }
 }
@@ -98,20 +100,14 @@ fn operation_in(word: u32) -> Operation
     }
 }
 
-fn is_address(number: u8) -> bool
-    ensures { result ≡ nat_le number 31 }
-{
-    number <= ADDRESS_MAX
-}
-
 fn word_of(frame: Frame) -> u32
-    requires { (frame.port < 32) × (frame.device < 32) }
+    requires { addressable frame.address ≡ true }
     ensures value { result ≡ word_of frame }
     ensures low16_fits { low16_of frame.operation < 65536 }
 {
     let word = OP.put(0, op_code(frame.operation));
-    let word = PRTAD.put(word, u32::from(frame.port));
-    let word = DEVAD.put(word, u32::from(frame.device));
+    let word = PRTAD.put(word, u32::from(frame.address.port));
+    let word = DEVAD.put(word, u32::from(frame.address.device));
     let word = TA.put(word, turnaround(frame.operation));
     LOW16.put(word, u32::from(low16(frame.operation)))
 }
@@ -151,8 +147,7 @@ mod tests {
     use super::*;
 
     const PORT_1_DEVICE_3: Frame = Frame {
-        port: 1,
-        device: 3,
+        address: MmdAddress { port: 1, device: 3 },
         operation: Operation::Read,
     };
 
@@ -175,14 +170,20 @@ mod tests {
         assert_eq!(rt; split(0x4000_0000), Err(FrameRefusal::Start));
         assert_eq!(rt;
             build(Frame {
-                port: 32,
+                address: MmdAddress {
+                    port: 32,
+                    device: 3
+                },
                 ..PORT_1_DEVICE_3
             }),
             Err(FrameRefusal::Address)
         );
         assert_eq!(rt;
             build(Frame {
-                device: 32,
+                address: MmdAddress {
+                    port: 1,
+                    device: 32
+                },
                 ..PORT_1_DEVICE_3
             }),
             Err(FrameRefusal::Address)
