@@ -1,5 +1,5 @@
 -- Two banks side by side: what is found, and what a deed does, on either side.
-use Rattle.std.proofs.Common.{◌≡◌, ℕ, zero, suc, ◌+◌, ◌-◌, ◌<◌, ◌≤◌, min, Bool, true, false, cond, List, [], ◌∷◌, ◌++◌, length, Some, None, Option, sym, refl, ap, ◌∙◌, ap₂, arith}
+use Rattle.std.proofs.Common.{◌≡◌, ℕ, zero, suc, ◌+◌, ◌-◌, ◌<◌, ◌≤◌, min, Bool, true, false, if◌then◌else◌, List, [], ◌∷◌, ◌++◌, length, Some, None, Option, sym, refl, ap, ◌∙◌, ap₂, arith}
 use Rattle.std.proofs.lemmas.Bool.Decides.{nat_tests}
 use Rattle.bank.specs.Deeds.{after_at, done_at}
 use Rattle.bank.specs.Slots.{SlotMeaning, beside, earliest, next_place, numbered}
@@ -26,7 +26,7 @@ earliest_append test [] ys = none_behind (earliest test ys)
 earliest_append test (x ∷ xs) ys =
     let ih = earliest_append test xs ys in
     let moved = next_behind (length xs) (earliest test xs) (earliest test ys) in
-    elim (test x) as (λ t. cond t (Some zero) (next_place (earliest test (xs ++ ys))) ≡ behind (suc (length xs)) (cond t (Some zero) (next_place (earliest test xs))) (earliest test ys)) [ true ↦ refl | false ↦ ap next_place ih ∙ moved ]
+    elim (test x) as (λ t. if t then Some zero else next_place (earliest test (xs ++ ys)) ≡ behind (suc (length xs)) (if t then Some zero else next_place (earliest test xs)) (earliest test ys)) [ true ↦ refl | false ↦ ap next_place ih ∙ moved ]
 
 abbrev pub Below : Option ℕ → ℕ → Type 0
 Below None n = Unit {0}
@@ -40,7 +40,7 @@ pub earliest_below : (test : SlotMeaning → Bool) (xs : List SlotMeaning) → B
 earliest_below test [] = tt
 earliest_below test (x ∷ xs) =
     let ih = next_below (earliest test xs) (length xs) (earliest_below test xs) in
-    elim (test x) as (λ t. Below (cond t (Some zero) (next_place (earliest test xs))) (suc (length xs))) [ true ↦ omega arith | false ↦ ih ]
+    elim (test x) as (λ t. Below (if t then Some zero else next_place (earliest test xs)) (suc (length xs))) [ true ↦ omega arith | false ↦ ih ]
 
 numbered_beside : (left right : Option ℕ) (n : ℕ) → Below left n → beside (numbered left) (min 65536 n) (numbered right) ≡ numbered (behind n left right)
 numbered_beside None None n below = refl

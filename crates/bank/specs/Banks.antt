@@ -4,4 +4,4 @@ use Rattle.bank.specs.Slots.{SlotMeaning}
 use Rattle.bank.specs.declared.slot.Slot.{Slot}
 
 abbrev pub slot_meaning : {M : Type 0} → (M → Meaning) → Slot M → SlotMeaning
-slot_meaning meaning s = record { port = s.port; device = s.device; address = s.address; mmd = meaning s.mmd }
+slot_meaning meaning s = record { address = s.address; register = s.register; mmd = meaning s.mmd }

@@ -1,48 +1,52 @@
 -- What a deed does to the slot that it names, and what it answers.
-use Rattle.std.specs.Prelude.{ℕ, zero, suc, ◌+◌, min, cond, List, [], ◌∷◌, is_ok, Some, None, Ok, Err, Option, Result}
+use Rattle.std.specs.Prelude.{ℕ, zero, suc, ◌+◌, min, if◌then◌else◌, List, [], ◌∷◌, is_ok, Some, None, Ok, Err, Option, Result}
+use Rattle.frame.specs.declared.frame.Operation.TheVariants.{Address, Write, Read, PostReadIncrement}
 use Rattle.mmd.specs.Events.{after_read, after_write, after_line, after_count, after_finish, after_reset}
 use Rattle.mmd.specs.Meaning.{Meaning, read_word}
 use Rattle.mmd.specs.Refusals.{count_answer, finish_answer}
+use Rattle.mmd.specs.declared.event.Event.TheVariants.{Line, Count, Finish, Reset}
 use Rattle.mmd.specs.declared.refusal.MmdRefusal.{MmdRefusal}
 use Rattle.bank.specs.Slots.{SlotMeaning}
 use Rattle.bank.specs.declared.deed.Deed.{Deed}
-use Rattle.bank.specs.declared.deed.Deed.TheVariants.{Address, Write, Read, PostReadIncrement, Line, Count, Finish, Reset}
-use Rattle.bank.specs.declared.deed.Done.{Done}
-use Rattle.bank.specs.declared.deed.Done.TheVariants.{Data, Taken, Refused}
+use Rattle.bank.specs.declared.deed.Deed.TheVariants.{Frame, Event}
 
-abbrev pub done_as : Result (Unit {0}) MmdRefusal → Done
-done_as (Ok u) = Taken
-done_as (Err e) = Refused e
+-- the data of a read, none where the deed is taken, or why the MMD refuses
+abbrev pub Done : Type 0
+Done = Result (Option ℕ) MmdRefusal
+
+abbrev pub taken_as : Result (Unit {0}) MmdRefusal → Done
+taken_as (Ok u) = Ok None
+taken_as (Err e) = Err e
 
 abbrev pub done : Deed → SlotMeaning → Done
-done (Address a) s = Taken
-done (Write w) s = Taken
-done Read s = Data (read_word s.mmd s.address)
-done PostReadIncrement s = Data (read_word s.mmd s.address)
-done (Line n up) s = Taken
-done (Count k n) s = done_as (count_answer s.mmd k)
-done (Finish r b) s = done_as (finish_answer s.mmd r b)
-done Reset s = Taken
+done (Frame (Address register)) s = Ok None
+done (Frame (Write w)) s = Ok None
+done (Frame Read) s = Ok (Some (read_word s.mmd s.register))
+done (Frame PostReadIncrement) s = Ok (Some (read_word s.mmd s.register))
+done (Event (Line n up)) s = Ok None
+done (Event (Count k n)) s = taken_as (count_answer s.mmd k)
+done (Event (Finish r b)) s = taken_as (finish_answer s.mmd r b)
+done (Event Reset) s = Ok None
 
 abbrev pub with_mmd : SlotMeaning → Meaning → SlotMeaning
-with_mmd s m = record { port = s.port; device = s.device; address = s.address; mmd = m }
+with_mmd s m = record { address = s.address; register = s.register; mmd = m }
 
-abbrev pub with_address : SlotMeaning → ℕ → SlotMeaning
-with_address s a = record { port = s.port; device = s.device; address = a; mmd = s.mmd }
+abbrev pub with_register : SlotMeaning → ℕ → SlotMeaning
+with_register s r = record { address = s.address; register = r; mmd = s.mmd }
 
 -- the address register steps by one, and stays at 65535
 abbrev pub stepped : ℕ → ℕ
-stepped a = min 65535 (a + 1)
+stepped r = min 65535 (r + 1)
 
 abbrev pub after_deed : Deed → SlotMeaning → SlotMeaning
-after_deed (Address a) s = with_address s a
-after_deed (Write w) s = with_mmd s (after_write s.mmd s.address w)
-after_deed Read s = with_mmd s (after_read s.mmd s.address)
-after_deed PostReadIncrement s = with_address (with_mmd s (after_read s.mmd s.address)) (stepped s.address)
-after_deed (Line n up) s = with_mmd s (after_line s.mmd n up)
-after_deed (Count k n) s = with_mmd s (cond (is_ok (count_answer s.mmd k)) (after_count s.mmd k n) s.mmd)
-after_deed (Finish r b) s = with_mmd s (cond (is_ok (finish_answer s.mmd r b)) (after_finish s.mmd r b) s.mmd)
-after_deed Reset s = with_mmd s (after_reset s.mmd)
+after_deed (Frame (Address register)) s = with_register s register
+after_deed (Frame (Write w)) s = with_mmd s (after_write s.mmd s.register w)
+after_deed (Frame Read) s = with_mmd s (after_read s.mmd s.register)
+after_deed (Frame PostReadIncrement) s = with_register (with_mmd s (after_read s.mmd s.register)) (stepped s.register)
+after_deed (Event (Line n up)) s = with_mmd s (after_line s.mmd n up)
+after_deed (Event (Count k n)) s = with_mmd s (if is_ok (count_answer s.mmd k) then after_count s.mmd k n else s.mmd)
+after_deed (Event (Finish r b)) s = with_mmd s (if is_ok (finish_answer s.mmd r b) then after_finish s.mmd r b else s.mmd)
+after_deed (Event Reset) s = with_mmd s (after_reset s.mmd)
 
 -- at a slot's number; none for a slot that is not there
 abbrev pub done_at : ℕ → Deed → List SlotMeaning → Option Done

@@ -1,3 +1,4 @@
 pub mod Banks
 pub mod Deeds
+pub mod Searches
 pub mod Slots

@@ -1,12 +1,12 @@
 -- What a bank means: its slots, left to right.
-use Rattle.std.specs.Prelude.{ℕ, zero, suc, ◌+◌, Bool, cond, ◌&&◌, List, [], ◌∷◌, Some, None, Option, ◌==◌, nat_lt}
+use Rattle.std.specs.Prelude.{ℕ, zero, suc, ◌+◌, Bool, if◌then◌else◌, List, [], ◌∷◌, Some, None, Option, nat_lt}
+use Rattle.frame.specs.declared.address.MmdAddress.{MmdAddress}
 use Rattle.mmd.specs.Meaning.{Meaning}
 
 pub record SlotMeaning : Type 0 where
-  pub port : ℕ
-  pub device : ℕ
+  pub address : MmdAddress
   -- the address register: where a write or a read frame acts
-  pub address : ℕ
+  pub register : ℕ
   pub mmd : Meaning
 
 -- the number of the earliest slot that passes a test
@@ -16,18 +16,12 @@ next_place (Some n) = Some (suc n)
 
 abbrev pub earliest : (SlotMeaning → Bool) → List SlotMeaning → Option ℕ
 earliest test [] = None
-earliest test (s ∷ ss) = cond (test s) (Some zero) (next_place (earliest test ss))
+earliest test (s ∷ ss) = if test s then Some zero else next_place (earliest test ss)
 
 -- slots are numbered 0 to 65,535; further ones count as absent
 abbrev pub numbered : Option ℕ → Option ℕ
 numbered None = None
-numbered (Some n) = cond (nat_lt n 65536) (Some n) None
-
-abbrev pub has_port : ℕ → SlotMeaning → Bool
-has_port port s = s.port == port
-
-abbrev pub is_at : ℕ → ℕ → SlotMeaning → Bool
-is_at port device s = s.port == port && s.device == device
+numbered (Some n) = if nat_lt n 65536 then Some n else None
 
 -- of two banks' answers: the left's, or the right's behind the left's slots
 abbrev pub beside : Option ℕ → ℕ → Option ℕ → Option ℕ

@@ -1,11 +1,13 @@
 // The interface of every bank: its slots, left to right, and what is asked of them by their numbers.
 ghost use Rattle.std.specs.Prelude.{◌≡◌, min, List, length};
 ghost use Rattle.bank.specs.Deeds.{after_at, done_at};
-ghost use Rattle.bank.specs.Slots.{SlotMeaning, earliest, has_port, is_at, numbered};
+ghost use Rattle.bank.specs.Searches.{is_wanted};
+ghost use Rattle.bank.specs.Slots.{SlotMeaning, earliest, numbered};
 ghost use Rattle.mmd.specs.Invariant.{Keeps};
 ghost use Rattle.std.specs.List.{AllByRecursion};
 
 use crate::deed::{Deed, Done};
+use crate::wanted::Wanted;
 
 pub trait Bank {
     ghost slots: { Self → List SlotMeaning };
@@ -14,13 +16,9 @@ pub trait Bank {
     fn count(&self) -> u32
         ensures { result ≡ min 65536 (length (slots self.now)) };
 
-    // The number of the earliest slot with a port and device.
-    fn find(&self, port: u8, device: u8) -> Option<u16>
-        ensures { result ≡ numbered (earliest (is_at port device) (slots self.now)) };
-
-    // The number of the earliest slot with a port.
-    fn find_port(&self, port: u8) -> Option<u16>
-        ensures { result ≡ numbered (earliest (has_port port) (slots self.now)) };
+    // The number of the earliest slot that is wanted.
+    fn find(&self, wanted: Wanted) -> Option<u16>
+        ensures { result ≡ numbered (earliest (is_wanted wanted) (slots self.now)) };
 
     // Does a deed at a slot's number; nothing, where there is no such slot.
     fn act(&mut self, slot: u16, deed: Deed) -> Option<Done>

@@ -1,23 +1,14 @@
 // What can be asked of the MMD in a slot, and what it answers.
+use frame::frame::Operation;
+use mmd::event::Event;
 use mmd::refusal::MmdRefusal;
 
-#[derive(Clone, Copy)]
+#[derive(Clone, Copy, PartialEq, Eq, Debug)]
 pub enum Deed {
-    // the four frames: store the address; write, read, or read and step at the stored address
-    Address(u16),
-    Write(u16),
-    Read,
-    PostReadIncrement,
-    // what reaches the MMD without a frame
-    Line { number: u8, up: bool },
-    Count { counter: u8, amount: u16 },
-    Finish { register: u16, bit: u8 },
-    Reset,
+    // a frame: stores the address; writes, reads, or reads and steps, at the stored address
+    Frame(Operation),
+    Event(Event),
 }
 
-#[derive(Clone, Copy)]
-pub enum Done {
-    Data(u16),
-    Taken,
-    Refused(MmdRefusal),
-}
+// The data of a read, none where the deed is taken, or why the MMD refuses.
+pub type Done = Result<Option<u16>, MmdRefusal>;

@@ -5,3 +5,4 @@ pub mod bank;
 pub mod deed;
 pub mod pair;
 pub mod slot;
+pub mod wanted;

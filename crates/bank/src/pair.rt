@@ -6,6 +6,7 @@ ghost use Rattle.mmd.specs.Invariant.{Keeps};
 
 use crate::bank::Bank;
 use crate::deed::{Deed, Done};
+use crate::wanted::Wanted;
 
 #[derive(Drop)]
 pub struct Pair<L, R> {
@@ -24,18 +25,11 @@ impl<L: Bank, R: Bank> Bank for Pair<L, R> {
         (self.left.count() + self.right.count()).min(SLOTS)
     }
 
-    fn find(&self, port: u8, device: u8) -> Option<u16> {
-        if let Some(slot) = self.left.find(port, device) {
+    fn find(&self, wanted: Wanted) -> Option<u16> {
+        if let Some(slot) = self.left.find(wanted) {
             return Some(slot);
         }
-        behind(self.left.count(), self.right.find(port, device))
-    }
-
-    fn find_port(&self, port: u8) -> Option<u16> {
-        if let Some(slot) = self.left.find_port(port) {
-            return Some(slot);
-        }
-        behind(self.left.count(), self.right.find_port(port))
+        behind(self.left.count(), self.right.find(wanted))
     }
 
     fn act(&mut self, slot: u16, deed: Deed) -> Option<Done> {

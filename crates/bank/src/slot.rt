@@ -1,30 +1,33 @@
-// A slot: an MMD at a port and device, with the address register that frames set.
+// A slot: an MMD at its address, with the address register that frames set.
 ghost use Rattle.std.specs.Prelude.{◌≡◌, [], ◌∷◌};
 ghost use Rattle.bank.specs.Banks.{slot_meaning};
-ghost use Rattle.bank.specs.Deeds.{after_deed, done, done_as, stepped};
+ghost use Rattle.bank.specs.Deeds.{after_deed, done, taken_as, stepped};
+ghost use Rattle.bank.specs.declared.deed.Deed.TheVariants.{Frame, Event as EventDeed};
 
 use crate::bank::Bank;
 use crate::deed::{Deed, Done};
+use crate::wanted::Wanted;
+use frame::address::MmdAddress;
+use frame::frame::Operation;
+use mmd::event::Event;
 use mmd::mmd::Mmd;
-use mmd::refusal::MmdRefusal;
 
 #[derive(Drop)]
 pub struct Slot<M> {
-    pub(crate) port: u8,
-    pub(crate) device: u8,
-    pub(crate) address: u16,
+    pub(crate) address: MmdAddress,
+    // where a write or a read frame acts
+    pub(crate) register: u16,
     pub(crate) mmd: M,
 }
 
 impl<M: Mmd> Slot<M> {
     // A slot whose address register is at 0.
-    pub fn new(port: u8, device: u8, mmd: M) -> Slot<M>
-        ensures { result ≡ record { port = port; device = device; address = 0; mmd = mmd } }
+    pub fn new(address: MmdAddress, mmd: M) -> Slot<M>
+        ensures { result ≡ record { address = address; register = 0; mmd = mmd } }
     {
         Slot {
-            port,
-            device,
-            address: 0,
+            address,
+            register: 0,
             mmd,
         }
     }
@@ -34,40 +37,45 @@ impl<M: Mmd> Slot<M> {
         ensures after { slot_meaning M.Mmd.meaning self.new ≡ after_deed deed (slot_meaning M.Mmd.meaning self.old) }
     {
         match deed {
-            Deed::Address(address) => {
-                self.address = address;
-                Done::Taken
+            Deed::Frame(operation) => Ok(self.take_frame(operation)),
+            Deed::Event(event) => self.take_event(event),
+        }
+    }
+
+    // No frame is refused by an MMD.
+    fn take_frame(&mut self, operation: Operation) -> Option<u16>
+        ensures answer { Ok result ≡ done (Frame operation) (slot_meaning M.Mmd.meaning self.old) }
+        ensures after { slot_meaning M.Mmd.meaning self.new ≡ after_deed (Frame operation) (slot_meaning M.Mmd.meaning self.old) }
+    {
+        match operation {
+            Operation::Address { register } => {
+                self.register = register;
+                None
             }
-            Deed::Write(word) => {
-                self.mmd.write(self.address, word);
-                Done::Taken
+            Operation::Write { data } => {
+                self.mmd.write(self.register, data);
+                None
             }
-            Deed::Read => Done::Data(self.mmd.read(self.address)),
-            Deed::PostReadIncrement => {
-                let data = self.mmd.read(self.address);
-                self.address = self.address.saturating_add(1);
-                Done::Data(data)
-            }
-            Deed::Line { number, up } => {
-                self.mmd.line(number, up);
-                Done::Taken
-            }
-            Deed::Count { counter, amount } => done_as(self.mmd.count(counter, amount)),
-            Deed::Finish { register, bit } => done_as(self.mmd.finish(register, bit)),
-            Deed::Reset => {
-                self.mmd.reset();
-                Done::Taken
+            Operation::Read => Some(self.mmd.read(self.register)),
+            Operation::PostReadIncrement => {
+                let data = self.mmd.read(self.register);
+                self.register = self.register.saturating_add(1);
+                Some(data)
             }
         }
     }
-}
 
-fn done_as(answer: Result<(), MmdRefusal>) -> Done
-    ensures { result ≡ done_as answer }
-{
-    match answer {
-        Ok(()) => Done::Taken,
-        Err(refusal) => Done::Refused(refusal),
+    fn take_event(&mut self, event: Event) -> Done
+        ensures answer { result ≡ done (EventDeed event) (slot_meaning M.Mmd.meaning self.old) }
+        ensures after { slot_meaning M.Mmd.meaning self.new ≡ after_deed (EventDeed event) (slot_meaning M.Mmd.meaning self.old) }
+    {
+        match event {
+            Event::Line { number, up } => self.mmd.line(number, up),
+            Event::Count { counter, amount } => self.mmd.count(counter, amount)?,
+            Event::Finish { register, bit } => self.mmd.finish(register, bit)?,
+            Event::Reset => self.mmd.reset(),
+        }
+        Ok(None)
     }
 }
 
@@ -80,16 +88,8 @@ impl<M: Mmd> Bank for Slot<M> {
         1
     }
 
-    fn find(&self, port: u8, device: u8) -> Option<u16> {
-        if self.port == port && self.device == device {
-            Some(0)
-        } else {
-            None
-        }
-    }
-
-    fn find_port(&self, port: u8) -> Option<u16> {
-        if self.port == port { Some(0) } else { None }
+    fn find(&self, wanted: Wanted) -> Option<u16> {
+        wanted.suits(self.address).then_some(0)
     }
 
     fn act(&mut self, slot: u16, deed: Deed) -> Option<Done> {

@@ -2,5 +2,6 @@
 #![tactic(auto)]
 
 pub mod counter;
+pub mod event;
 pub mod mmd;
 pub mod refusal;
