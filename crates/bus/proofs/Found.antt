@@ -1,64 +1,64 @@
 -- Where a deed leaves the search and the other slots: below the laws by address.
-use Rattle.std.proofs.Common.{◌≡◌, ℕ, zero, suc, ◌<◌, Bool, true, false, cond, ◌&&◌, eqb, List, [], ◌∷◌, map, length, is_ok, Some, None, Option, refl, ap, subst, ap₂, arith}
+use Rattle.std.proofs.Common.{◌≡◌, ℕ, zero, suc, ◌<◌, Bool, true, false, if◌then◌else◌, List, [], ◌∷◌, map, length, is_ok, Some, None, Option, refl, ap, subst, arith}
 use Rattle.std.proofs.lemmas.Bool.Decides.{nat_tests}
 use Rattle.std.specs.List.{AllByRecursion}
 use Rattle.bank.proofs.Sides.{Below, earliest_below}
 use Rattle.bank.specs.Deeds.{after_at, after_deed, done, done_at}
-use Rattle.bank.specs.Slots.{SlotMeaning, earliest, has_port, is_at, next_place, numbered}
+use Rattle.bank.specs.Searches.{is_wanted, suits}
+use Rattle.bank.specs.Slots.{SlotMeaning, earliest, next_place, numbered}
 use Rattle.bank.specs.declared.deed.Deed.{Deed}
-use Rattle.bank.specs.declared.deed.Deed.TheVariants.{Address, Write, Read, PostReadIncrement, Line, Count, Finish, Reset}
+use Rattle.bank.specs.declared.deed.Deed.TheVariants.{Frame, Event}
+use Rattle.bank.specs.declared.wanted.Wanted.{Wanted}
+use Rattle.bank.specs.declared.wanted.Wanted.TheVariants.{Port as PortWanted, Mmd as MmdWanted}
+use Rattle.frame.specs.Addresses.{same_address}
+use Rattle.frame.specs.declared.address.MmdAddress.{MmdAddress}
+use Rattle.frame.specs.declared.frame.Operation.TheVariants.{Address, Write, Read, PostReadIncrement}
 use Rattle.mmd.proofs.Kept.{read_keeps, write_keeps, line_keeps, count_keeps, finish_keeps, reset_keeps}
 use Rattle.mmd.specs.Events.{after_count, after_finish}
 use Rattle.mmd.specs.Invariant.{Keeps}
 use Rattle.mmd.specs.Meaning.{Meaning}
 use Rattle.mmd.specs.Refusals.{count_answer, finish_answer}
-use Rattle.bus.specs.Answers.{after_found, slot_at}
-use Rattle.bus.specs.Places.{found, mmd_at, on_found, same_address}
+use Rattle.mmd.specs.declared.event.Event.TheVariants.{Line, Count, Finish, Reset}
+use Rattle.bus.specs.Answers.{after_found, port_at, slot_at}
+use Rattle.bus.specs.Places.{found, mmd_at, on_found}
 
 -- ---- a deed keeps where a slot stands
 
-pub same_port : (deed : Deed) (s : SlotMeaning) → (after_deed deed s).port ≡ s.port
-same_port (Address a) s = refl
-same_port (Write w) s = refl
-same_port Read s = refl
-same_port PostReadIncrement s = refl
-same_port (Line n up) s = refl
-same_port (Count k n) s = refl
-same_port (Finish r b) s = refl
-same_port Reset s = refl
-
-pub same_device : (deed : Deed) (s : SlotMeaning) → (after_deed deed s).device ≡ s.device
-same_device (Address a) s = refl
-same_device (Write w) s = refl
-same_device Read s = refl
-same_device PostReadIncrement s = refl
-same_device (Line n up) s = refl
-same_device (Count k n) s = refl
-same_device (Finish r b) s = refl
-same_device Reset s = refl
+pub stays_at_address : (deed : Deed) (s : SlotMeaning) → (after_deed deed s).address ≡ s.address
+stays_at_address (Frame (Address register)) s = refl
+stays_at_address (Frame (Write w)) s = refl
+stays_at_address (Frame Read) s = refl
+stays_at_address (Frame PostReadIncrement) s = refl
+stays_at_address (Event (Line n up)) s = refl
+stays_at_address (Event (Count k n)) s = refl
+stays_at_address (Event (Finish r b)) s = refl
+stays_at_address (Event Reset) s = refl
 
 earliest_after : (deed : Deed) (test : SlotMeaning → Bool) → ((s : SlotMeaning) → test (after_deed deed s) ≡ test s)
     → (n : ℕ) (slots : List SlotMeaning) → earliest test (after_at n deed slots) ≡ earliest test slots
 earliest_after deed test same n [] = refl
-earliest_after deed test same zero (s ∷ ss) = ap (λ t. cond t (Some zero) (next_place (earliest test ss))) (same s)
+earliest_after deed test same zero (s ∷ ss) = ap (λ t. if t then Some zero else (next_place (earliest test ss))) (same s)
 earliest_after deed test same (suc n) (s ∷ ss) =
-    ap (λ rest. cond (test s) (Some zero) (next_place rest)) (earliest_after deed test same n ss)
+    ap (λ rest. if (test s) then Some zero else (next_place rest)) (earliest_after deed test same n ss)
 
 earliest_found : (deed : Deed) (test : SlotMeaning → Bool) → ((s : SlotMeaning) → test (after_deed deed s) ≡ test s)
     → (slots : List SlotMeaning) (at : Option ℕ) → numbered (earliest test (after_found deed slots at)) ≡ numbered (earliest test slots)
 earliest_found deed test same slots None = refl
 earliest_found deed test same slots (Some n) = ap numbered (earliest_after deed test same n slots)
 
--- the search finds what it found, by port and device and by the port alone
-pub slot_at_after : (deed : Deed) (port device : ℕ) (slots : List SlotMeaning) (at : Option ℕ)
-    → slot_at port device (after_found deed slots at) ≡ slot_at port device slots
-slot_at_after deed port device slots at =
-    earliest_found deed (is_at port device)
-    (λ s. ap₂ (λ p d. eqb p port && eqb d device) (same_port deed s) (same_device deed s)) slots at
+-- every search finds what it found
+search_after : (deed : Deed) (wanted : Wanted) (slots : List SlotMeaning) (at : Option ℕ)
+    → numbered (earliest (is_wanted wanted) (after_found deed slots at)) ≡ numbered (earliest (is_wanted wanted) slots)
+search_after deed wanted slots at =
+    earliest_found deed (is_wanted wanted) (λ s. ap (suits wanted) (stays_at_address deed s)) slots at
+
+pub slot_at_after : (deed : Deed) (address : MmdAddress) (slots : List SlotMeaning) (at : Option ℕ)
+    → slot_at address (after_found deed slots at) ≡ slot_at address slots
+slot_at_after deed address slots at = search_after deed (MmdWanted address) slots at
 
 pub port_after : (deed : Deed) (port : ℕ) (slots : List SlotMeaning) (at : Option ℕ)
-    → numbered (earliest (has_port port) (after_found deed slots at)) ≡ numbered (earliest (has_port port) slots)
-port_after deed port slots at = earliest_found deed (has_port port) (λ s. ap (λ p. eqb p port) (same_port deed s)) slots at
+    → port_at port (after_found deed slots at) ≡ port_at port slots
+port_after deed port slots at = search_after deed (PortWanted port) slots at
 
 -- ---- the MMD at a slot's number
 
@@ -98,7 +98,7 @@ first_apart None n p q = let z : ◌≡◌ {A = ℕ} 0 1 = cc in omega arith
 first_apart (Some j) n p q = let z : zero ≡ suc j = cc in omega arith
 
 step_apart : (x y : Bool) (a b : Option ℕ) → (x ≡ true → y ≡ true → ⊥) → Apart a b
-    → Apart (cond x (Some zero) (next_place a)) (cond y (Some zero) (next_place b))
+    → Apart (if x then Some zero else (next_place a)) (if y then Some zero else (next_place b))
 step_apart true true a b never apart = absurd (never refl refl)
 step_apart true false a b never apart = first_apart b
 step_apart false true a b never apart = λ n p q. first_apart a n q p
@@ -114,11 +114,11 @@ numbered_some : (a : Option ℕ) (n : ℕ) → numbered a ≡ Some n → a ≡ S
 numbered_some None n e = e
 numbered_some (Some k) n e = grind (arith, nat_tests)
 
-pub slots_apart : (port device p d : ℕ) (slots : List SlotMeaning) → same_address port device p d ≡ false
-    → (n : ℕ) → slot_at port device slots ≡ Some n → slot_at p d slots ≡ Some n → ⊥
-slots_apart port device p d slots other n here there =
-    earliest_apart (is_at port device) (is_at p d) (λ s a b. grind (arith, nat_tests)) slots n
-    (numbered_some (earliest (is_at port device) slots) n here) (numbered_some (earliest (is_at p d) slots) n there)
+pub slots_apart : (address p : MmdAddress) (slots : List SlotMeaning) → same_address address p ≡ false
+    → (n : ℕ) → slot_at address slots ≡ Some n → slot_at p slots ≡ Some n → ⊥
+slots_apart address p slots other n here there =
+    earliest_apart (is_wanted (MmdWanted address)) (is_wanted (MmdWanted p)) (λ s a b. grind (arith, nat_tests)) slots n
+    (numbered_some (earliest (is_wanted (MmdWanted address)) slots) n here) (numbered_some (earliest (is_wanted (MmdWanted p)) slots) n there)
 
 -- ---- a found number is a slot's
 
@@ -126,9 +126,9 @@ below_at : (a : Option ℕ) (n count : ℕ) → Below a count → a ≡ Some n �
 below_at None n count below e = let z : ◌≡◌ {A = ℕ} 0 1 = cc in absurd (omega arith)
 below_at (Some k) n count below e = let same : k ≡ n = cc in omega arith
 
-pub found_within : (port device n : ℕ) (slots : List SlotMeaning) → slot_at port device slots ≡ Some n → n < length slots
-found_within port device n slots e =
-    let test = is_at port device in
+pub found_within : (address : MmdAddress) (n : ℕ) (slots : List SlotMeaning) → slot_at address slots ≡ Some n → n < length slots
+found_within address n slots e =
+    let test = is_wanted (MmdWanted address) in
     below_at (earliest test slots) n (length slots) (earliest_below test slots) (numbered_some (earliest test slots) n e)
 
 -- the slot at a number: its MMD, and what it answers to a deed, and to a deed after another
@@ -151,21 +151,21 @@ found_of_keeps zero (s ∷ ss) m keeps e = let same : s.mmd ≡ m = cc in subst 
 found_of_keeps (suc n) (s ∷ ss) m keeps e = found_of_keeps n ss m keeps.1 e
 
 -- a refused call leaves the MMD as it was
-either_keeps : (ok : Bool) (a b : Meaning) → Keeps a → Keeps b → Keeps (cond ok a b)
+either_keeps : (ok : Bool) (a b : Meaning) → Keeps a → Keeps b → Keeps (if ok then a else b)
 either_keeps true a b ka kb = ka
 either_keeps false a b ka kb = kb
 
 pub deed_keeps : (deed : Deed) (s : SlotMeaning) → Keeps s.mmd → Keeps (after_deed deed s).mmd
-deed_keeps (Address a) s keeps = keeps
-deed_keeps (Write w) s keeps = write_keeps s.mmd keeps s.address w
-deed_keeps Read s keeps = read_keeps s.mmd keeps s.address
-deed_keeps PostReadIncrement s keeps = read_keeps s.mmd keeps s.address
-deed_keeps (Line n up) s keeps = line_keeps s.mmd keeps n up
-deed_keeps (Count k n) s keeps =
+deed_keeps (Frame (Address a)) s keeps = keeps
+deed_keeps (Frame (Write w)) s keeps = write_keeps s.mmd keeps s.register w
+deed_keeps (Frame Read) s keeps = read_keeps s.mmd keeps s.register
+deed_keeps (Frame PostReadIncrement) s keeps = read_keeps s.mmd keeps s.register
+deed_keeps (Event (Line n up)) s keeps = line_keeps s.mmd keeps n up
+deed_keeps (Event (Count k n)) s keeps =
     either_keeps (is_ok (count_answer s.mmd k)) (after_count s.mmd k n) s.mmd (count_keeps s.mmd keeps k n) keeps
-deed_keeps (Finish r b) s keeps =
+deed_keeps (Event (Finish r b)) s keeps =
     either_keeps (is_ok (finish_answer s.mmd r b)) (after_finish s.mmd r b) s.mmd (finish_keeps s.mmd keeps r b) keeps
-deed_keeps Reset s keeps = reset_keeps s.mmd keeps
+deed_keeps (Event Reset) s keeps = reset_keeps s.mmd keeps
 
 pub after_at_keeps : (n : ℕ) (deed : Deed) (slots : List SlotMeaning) → AllByRecursion (λ s. Keeps s.mmd) slots → AllByRecursion (λ s. Keeps s.mmd) (after_at n deed slots)
 after_at_keeps n deed [] keeps = tt
@@ -174,8 +174,10 @@ after_at_keeps (suc n) deed (s ∷ ss) keeps = (keeps.0, after_at_keeps n deed s
 
 -- ---- the addresses stay
 
-pub after_at_addresses : (n : ℕ) (deed : Deed) (slots : List SlotMeaning) → map {B = ℕ × ℕ} (λ s. (s.port, s.device)) (after_at n deed slots) ≡ map {B = ℕ × ℕ} (λ s. (s.port, s.device)) slots
+abbrev pub address_in : SlotMeaning → MmdAddress
+address_in s = s.address
+
+pub after_at_addresses : (n : ℕ) (deed : Deed) (slots : List SlotMeaning) → map address_in (after_at n deed slots) ≡ map address_in slots
 after_at_addresses n deed [] = refl
-after_at_addresses zero deed (s ∷ ss) =
-    ap₂ (λ p d. (p, d) ∷ map {B = ℕ × ℕ} (λ s. (s.port, s.device)) ss) (same_port deed s) (same_device deed s)
-after_at_addresses (suc n) deed (s ∷ ss) = ap (λ rest. (s.port, s.device) ∷ rest) (after_at_addresses n deed ss)
+after_at_addresses zero deed (s ∷ ss) = ap (λ a. a ∷ map address_in ss) (stays_at_address deed s)
+after_at_addresses (suc n) deed (s ∷ ss) = ap (λ rest. s.address ∷ rest) (after_at_addresses n deed ss)

@@ -1,18 +1,21 @@
 -- What an address leads to, and what becomes of it: layers above the bus go by places, and not by lists of slots.
-use Rattle.std.specs.Prelude.{ℕ, zero, suc, ◌+◌, ◌%◌, Bool, cond, ◌&&◌, List, [], ◌∷◌, is_ok, Some, None, Ok, Err, Option, Result, ◌==◌, nat_le}
-use Rattle.bank.specs.Slots.{SlotMeaning, earliest, has_port, numbered}
+use Rattle.std.specs.Prelude.{ℕ, zero, suc, ◌+◌, ◌%◌, if◌then◌else◌, List, [], ◌∷◌, is_ok, Some, None, Ok, Err, Option, Result}
+use Rattle.bank.specs.Slots.{SlotMeaning}
 use Rattle.bank.specs.declared.deed.Deed.{Deed}
-use Rattle.bank.specs.declared.deed.Deed.TheVariants.{Address, Write, Read}
+use Rattle.bank.specs.declared.deed.Deed.TheVariants.{Frame as FrameDeed, Event as EventDeed}
+use Rattle.frame.specs.Addresses.{addressable}
+use Rattle.frame.specs.declared.address.MmdAddress.{MmdAddress}
+use Rattle.frame.specs.declared.frame.Operation.TheVariants.{Address, Write, Read}
 use Rattle.frame.specs.declared.refusal.FrameRefusal.TheVariants.{Address as AboveThirtyOne}
 use Rattle.mmd.specs.Events.{after_line, after_count, after_finish, after_reset}
 use Rattle.mmd.specs.Meaning.{Meaning, read_word}
 use Rattle.mmd.specs.Refusals.{count_answer, finish_answer}
+use Rattle.mmd.specs.declared.event.Event.{Event}
+use Rattle.mmd.specs.declared.event.Event.TheVariants.{Line, Count, Finish, Reset}
 use Rattle.mmd.specs.declared.refusal.MmdRefusal.{MmdRefusal}
-use Rattle.bus.specs.Answers.{after_found, event_deed, slot_at}
+use Rattle.bus.specs.Answers.{after_found, port_at, slot_at}
 use Rattle.bus.specs.declared.answer.BusRefusal.{BusRefusal}
 use Rattle.bus.specs.declared.answer.BusRefusal.TheVariants.{Frame, NoPort, NoDevice, Mmd}
-use Rattle.bus.specs.declared.answer.Event.{Event}
-use Rattle.bus.specs.declared.answer.Event.TheVariants.{Line, Count, Finish, Reset}
 
 -- no slot has the port; the port is there and the device is not; or the earliest such slot's MMD
 pub data Place : Type 0 where
@@ -30,27 +33,27 @@ mmd_at zero (s ∷ ss) = found s.mmd
 mmd_at (suc n) (s ∷ ss) = mmd_at n ss
 
 abbrev pub place_of : ℕ → List SlotMeaning → Option ℕ → Place
-place_of port slots None = absent_place (numbered (earliest (has_port port) slots))
+place_of port slots None = absent_place (port_at port slots)
 place_of port slots (Some n) = mmd_at n slots
 
-unfoldable pub place : ℕ → ℕ → List SlotMeaning → Place
-place port device slots = place_of port slots (slot_at port device slots)
+unfoldable pub place : MmdAddress → List SlotMeaning → Place
+place address slots = place_of address.port slots (slot_at address slots)
 
 -- ---- what is done at an address
 
 -- the slots after a deed at an address; nothing changes where nothing is there
-unfoldable pub worked : ℕ → ℕ → Deed → List SlotMeaning → List SlotMeaning
-worked port device deed slots = after_found deed slots (slot_at port device slots)
+unfoldable pub worked : MmdAddress → Deed → List SlotMeaning → List SlotMeaning
+worked address deed slots = after_found deed slots (slot_at address slots)
 
 -- a register is read, or written, by an address frame and a second frame
-unfoldable pub register_read : ℕ → ℕ → ℕ → List SlotMeaning → List SlotMeaning
-register_read port device register slots = worked port device Read (worked port device (Address register) slots)
+unfoldable pub register_read : MmdAddress → ℕ → List SlotMeaning → List SlotMeaning
+register_read address register slots = worked address (FrameDeed Read) (worked address (FrameDeed (Address register)) slots)
 
-unfoldable pub register_written : ℕ → ℕ → ℕ → ℕ → List SlotMeaning → List SlotMeaning
-register_written port device register word slots = worked port device (Write word) (worked port device (Address register) slots)
+unfoldable pub register_written : MmdAddress → ℕ → ℕ → List SlotMeaning → List SlotMeaning
+register_written address register word slots = worked address (FrameDeed (Write word)) (worked address (FrameDeed (Address register)) slots)
 
-unfoldable pub event_taken : ℕ → ℕ → Event → List SlotMeaning → List SlotMeaning
-event_taken port device event slots = worked port device (event_deed event) slots
+unfoldable pub event_taken : MmdAddress → Event → List SlotMeaning → List SlotMeaning
+event_taken address event slots = worked address (EventDeed event) slots
 
 -- ---- what is answered at a place
 
@@ -94,20 +97,13 @@ on_found f (found m) = found (f m)
 
 -- the MMD after an event: a refused one changes nothing
 abbrev pub after_event : Event → Meaning → Meaning
-after_event event m = cond (is_ok (event_answer event m)) (event_change event m) m
+after_event event m = if is_ok (event_answer event m) then event_change event m else m
 
 -- ---- register access by two frames
 
--- a frame can name this port and device
-abbrev pub addressable : ℕ → ℕ → Bool
-addressable port device = nat_le port 31 && nat_le device 31
-
-abbrev pub same_address : ℕ → ℕ → ℕ → ℕ → Bool
-same_address port device p d = port == p && device == d
-
-abbrev pub accessed : {A : Type 0} → ℕ → ℕ → Result A BusRefusal → Result A BusRefusal
-accessed port device answer = cond (addressable port device) answer (Err (Frame AboveThirtyOne))
+abbrev pub accessed : {A : Type 0} → MmdAddress → Result A BusRefusal → Result A BusRefusal
+accessed address answer = if addressable address then answer else Err (Frame AboveThirtyOne)
 
 -- two frames more where the access was not refused
 abbrev pub frames_accessed : {A : Type 0} → ℕ → Result A BusRefusal → ℕ
-frames_accessed count answer = (count + cond (is_ok answer) 2 0) % 65536
+frames_accessed count answer = (count + (if is_ok answer then 2 else 0)) % 65536

@@ -1,23 +1,26 @@
 // What a station asks of the bus: registers, by an address frame and then a read or a write frame, and the frame count.
 ghost use Rattle.std.specs.Prelude.{◌≡◌, ◌+◌, ◌%◌, is_ok, if◌then◌else◌};
-ghost use Rattle.bus.specs.Sent.{after_sent, reply, sent};
-ghost use Rattle.bus.specs.Places.{accessed, addressable, frames_accessed, place, read_of, register_read, register_written, write_of};
+ghost use Rattle.bus.specs.Answers.{frames_with};
+ghost use Rattle.bus.specs.Sent.{after_sent, sent};
+ghost use Rattle.frame.specs.Addresses.{addressable};
+ghost use Rattle.bus.specs.Places.{accessed, frames_accessed, place, read_of, register_read, register_written, write_of};
 
-use crate::answer::{BusAnswer, BusRefusal};
+use crate::answer::BusRefusal;
 use crate::bus::Bus;
 use bank::bank::Bank;
+use frame::address::MmdAddress;
 use frame::frame::{Frame, Operation};
 use frame::word::build;
 
 impl<B: Bank> Bus<B> {
     // Reads a register by an address and a read frame. A refused access changes nothing.
-    pub fn read_register(&mut self, port: u8, device: u8, register: u16) -> Result<u16, BusRefusal>
-        ensures answer { result ≡ accessed port device (read_of register (place port device (B.Bank.slots self.old.bank))) }
-        ensures slots { B.Bank.slots self.new.bank ≡ (if addressable port device then register_read port device register (B.Bank.slots self.old.bank) else B.Bank.slots self.old.bank) }
+    pub fn read_register(&mut self, address: MmdAddress, register: u16) -> Result<u16, BusRefusal>
+        ensures answer { result ≡ accessed address (read_of register (place address (B.Bank.slots self.old.bank))) }
+        ensures slots { B.Bank.slots self.new.bank ≡ (if addressable address then register_read address register (B.Bank.slots self.old.bank) else B.Bank.slots self.old.bank) }
         ensures frames { self.new.frames ≡ frames_accessed self.old.frames result }
     {
-        self.send(port, device, Operation::Address { register })?;
-        let data = self.send(port, device, Operation::Read)?;
+        self.send(address, Operation::Address { register })?;
+        let data = self.send(address, Operation::Read)?;
         // a read frame that is not refused is answered by data
         Ok(data.unwrap())
     }
@@ -25,17 +28,16 @@ impl<B: Bank> Bus<B> {
     // Writes a register by an address and a write frame. A refused access changes nothing.
     pub fn write_register(
         &mut self,
-        port: u8,
-        device: u8,
+        address: MmdAddress,
         register: u16,
         word: u16,
     ) -> Result<(), BusRefusal>
-        ensures answer { result ≡ accessed port device (write_of (place port device (B.Bank.slots self.old.bank))) }
-        ensures slots { B.Bank.slots self.new.bank ≡ (if addressable port device then register_written port device register word (B.Bank.slots self.old.bank) else B.Bank.slots self.old.bank) }
+        ensures answer { result ≡ accessed address (write_of (place address (B.Bank.slots self.old.bank))) }
+        ensures slots { B.Bank.slots self.new.bank ≡ (if addressable address then register_written address register word (B.Bank.slots self.old.bank) else B.Bank.slots self.old.bank) }
         ensures frames { self.new.frames ≡ frames_accessed self.old.frames result }
     {
-        self.send(port, device, Operation::Address { register })?;
-        self.send(port, device, Operation::Write { data: word })?;
+        self.send(address, Operation::Address { register })?;
+        self.send(address, Operation::Write { data: word })?;
         Ok(())
     }
 
@@ -47,34 +49,12 @@ impl<B: Bank> Bus<B> {
     }
 
     // Sends the frame of an operation. A refused one changes nothing.
-    fn send(
-        &mut self,
-        port: u8,
-        device: u8,
-        operation: Operation,
-    ) -> Result<Option<u16>, BusRefusal>
-        ensures answer { result ≡ sent port device operation (B.Bank.slots self.old.bank) }
-        ensures slots { B.Bank.slots self.new.bank ≡ after_sent port device operation (B.Bank.slots self.old.bank) }
-        ensures frames { self.new.frames ≡ (self.old.frames + (if is_ok result then 1 else 0)) % 65536 }
+    fn send(&mut self, address: MmdAddress, operation: Operation) -> Result<Option<u16>, BusRefusal>
+        ensures answer { result ≡ sent address operation (B.Bank.slots self.old.bank) }
+        ensures slots { B.Bank.slots self.new.bank ≡ after_sent address operation (B.Bank.slots self.old.bank) }
+        ensures frames { self.new.frames ≡ frames_with self.old.frames result }
     {
-        let frame = Frame {
-            port,
-            device,
-            operation,
-        };
-        match build(frame) {
-            Ok(word) => reply(self.frame(word)),
-            Err(refusal) => reply(self.counted(BusAnswer::Refused(BusRefusal::Frame(refusal)))),
-        }
-    }
-}
-
-fn reply(answer: BusAnswer) -> Result<Option<u16>, BusRefusal>
-    ensures { result ≡ reply answer }
-{
-    match answer {
-        BusAnswer::Data(word) => Ok(Some(word)),
-        BusAnswer::Taken => Ok(None),
-        BusAnswer::Refused(refusal) => Err(refusal),
+        let word = build(Frame { address, operation })?;
+        self.take_word(word)
     }
 }

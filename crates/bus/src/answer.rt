@@ -1,12 +1,12 @@
 // What the bus answers.
 ghost use Rattle.std.specs.Prelude.{◌≡◌};
-ghost use Rattle.bus.specs.Answers.{number_of};
-ghost use Rattle.bus.specs.declared.answer.BusRefusal.TheVariants.{Frame};
+ghost use Rattle.bus.specs.Answers.{number_of, told};
+ghost use Rattle.bus.specs.declared.answer.BusRefusal.TheVariants.{Frame, Mmd};
 
 use frame::refusal::FrameRefusal;
 use mmd::refusal::MmdRefusal;
 
-#[derive(Clone, Copy)]
+#[derive(Clone, Copy, PartialEq, Eq, Debug)]
 pub enum BusRefusal {
     // the word is no frame
     Frame(FrameRefusal),
@@ -40,19 +40,31 @@ impl From<FrameRefusal> for BusRefusal {
     }
 }
 
-// A frame is answered by data, by taken, or by a refusal.
-#[derive(Clone, Copy)]
+impl From<MmdRefusal> for BusRefusal {
+    ghost from_gives = { λ e r. r ≡ Mmd e };
+
+    fn from(refusal: MmdRefusal) -> BusRefusal {
+        BusRefusal::Mmd(refusal)
+    }
+}
+
+// A frame is answered by data, by taken, or by a refusal. It is an enum of its own and no Result, so that a frame's answer
+// reads as the manual has it: a rule of the project.
+#[derive(Clone, Copy, PartialEq, Eq, Debug)]
 pub enum BusAnswer {
     Data(u16),
     Taken,
     Refused(BusRefusal),
 }
 
-// What reaches an MMD without a frame.
-#[derive(Clone, Copy)]
-pub enum Event {
-    Line { number: u8, up: bool },
-    Count { counter: u8, amount: u16 },
-    Finish { register: u16, bit: u8 },
-    Reset,
+impl From<Result<Option<u16>, BusRefusal>> for BusAnswer {
+    ghost from_gives = { λ r a. a ≡ told r };
+
+    fn from(outcome: Result<Option<u16>, BusRefusal>) -> BusAnswer {
+        match outcome {
+            Ok(Some(word)) => BusAnswer::Data(word),
+            Ok(None) => BusAnswer::Taken,
+            Err(refusal) => BusAnswer::Refused(refusal),
+        }
+    }
 }
