@@ -1,6 +1,7 @@
 // What can be asked of a station.
+use frame::address::MmdAddress;
 
-// What is asked of the MMD at a port and device.
+// What is asked of the MMD at an address.
 #[derive(Clone, Copy)]
 pub enum Request {
     // a plain read
@@ -22,8 +23,7 @@ pub enum Call {
         entry: u8,
     },
     At {
-        port: u8,
-        device: u8,
+        address: MmdAddress,
         request: Request,
     },
 }

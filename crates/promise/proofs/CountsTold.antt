@@ -4,6 +4,7 @@ use lib.ListN.{length-replicate}
 use Rattle.std.proofs.lemmas.List.{get_or-replicate}
 use Rattle.std.proofs.lemmas.Bool.Decides.{nat_tests}
 use Rattle.std.specs.List.{AllByRecursion}
+use Rattle.frame.specs.Addresses.{same_address}
 use Rattle.bank.specs.Slots.{SlotMeaning}
 use Rattle.mmd.proofs.Counters.{counter_settled}
 use Rattle.call.specs.declared.call.Call.{Call}
@@ -50,28 +51,28 @@ module _ (e : CountEntry) (i watcher k : ℕ) (below : watcher < 8) where
   asked_tells (Finish r c) v = omega arith
   asked_tells Reset v = omega arith
 
-  called_tells : (c : Call) (v : CountView) → is_watch_read watcher i c ≡ false → would_tell (view_called (Count e) i watcher viewing c v) ≡ capped (would_tell v + amount_called e.port e.device k c)
+  called_tells : (c : Call) (v : CountView) → is_watch_read watcher i c ≡ false → would_tell (view_called (Count e) i watcher viewing c v) ≡ capped (would_tell v + amount_called e.address k c)
   called_tells (WatchRead w j) v unlooked = grind (arith, nat_tests)
-  called_tells (At p d q) v unlooked =
+  called_tells (At p q) v unlooked =
       let asks = asked_tells q v in
-      elim (eqb p e.port && eqb d e.device)
+      elim (same_address p e.address)
       as (λ here. would_tell (cond here (view_asked (Count e) i watcher viewing q v) v) ≡ capped (would_tell v + cond here (amount_asked k q) 0))
       [ true ↦ asks | false ↦ omega arith ]
 
-  by_tells : (x : Exchange) (v : CountView) → is_look watcher i x ≡ false → would_tell (by x v) ≡ capped (would_tell v + amount_by e.port e.device k x)
+  by_tells : (x : Exchange) (v : CountView) → is_look watcher i x ≡ false → would_tell (by x v) ≡ capped (would_tell v + amount_by e.address k x)
   by_tells x v unlooked = under (accepted x) refl
     where
-      under : (ok : Bool) → accepted x ≡ ok → would_tell (cond ok (view_called (Count e) i watcher viewing x.call v) v) ≡ capped (would_tell v + cond ok (amount_called e.port e.device k x.call) 0)
+      under : (ok : Bool) → accepted x ≡ ok → would_tell (cond ok (view_called (Count e) i watcher viewing x.call v) v) ≡ capped (would_tell v + cond ok (amount_called e.address k x.call) 0)
       under true is = called_tells x.call v (grind (arith, nat_tests))
       under false is = omega arith
 
-  after_tells : (log : Log) (v : CountView) → AllByRecursion (λ x. is_look watcher i x ≡ false) log → would_tell (after v log) ≡ capped (would_tell v + counted e.port e.device k log)
+  after_tells : (log : Log) (v : CountView) → AllByRecursion (λ x. is_look watcher i x ≡ false) log → would_tell (after v log) ≡ capped (would_tell v + counted e.address k log)
   after_tells [] v unlooked = omega arith
   after_tells (x ∷ log) v unlooked =
       let step = by_tells x v unlooked.0 in
       let rest = after_tells log (by x v) unlooked.1 in
-      rest ∙ ap (λ n. capped (n + counted e.port e.device k log)) step
-      ∙ added (would_tell v) (amount_by e.port e.device k x) (counted e.port e.device k log)
+      rest ∙ ap (λ n. capped (n + counted e.address k log)) step
+      ∙ added (would_tell v) (amount_by e.address k x) (counted e.address k log)
     where
       added : (a b c : ℕ) → capped (capped (a + b) + c) ≡ capped (a + (b + c))
       added a b c = omega arith
@@ -80,7 +81,7 @@ module _ (e : CountEntry) (i watcher k : ℕ) (below : watcher < 8) where
 
   called_look : (c : Call) (v : CountView) → is_watch_read watcher i c ≡ true → view_called (Count e) i watcher viewing c v ≡ count_emptied (count_read v)
   called_look (WatchRead w j) v is_one = grind (arith, nat_tests)
-  called_look (At p d q) v is_one = let z : ◌≡◌ {A = ℕ} 0 1 = cc in absurd (omega arith)
+  called_look (At p q) v is_one = let z : ◌≡◌ {A = ℕ} 0 1 = cc in absurd (omega arith)
 
   by_look : (x : Exchange) (v : CountView) → is_look watcher i x ≡ true → by x v ≡ count_emptied (count_read v)
   by_look x v is_one =
@@ -98,10 +99,10 @@ module _ (e : CountEntry) (i watcher k : ℕ) (below : watcher < 8) where
       ap (λ log. would_tell (after v log)) looked.2 ∙ ap would_tell (after_append v looked.0 (looked.1 ∷ []) ∙ by_look looked.1 (after v looked.0) looked.3)
 
   pub tells_sum_since : (v : CountView) → would_tell v ≡ 0 → (before since : Log) → Since watcher i before since
-      → would_tell (after v (before ++ since)) ≡ capped (counted e.port e.device k since)
+      → would_tell (after v (before ++ since)) ≡ capped (counted e.address k since)
   tells_sum_since v none before since looks =
       ap would_tell (after_append v before since) ∙ after_tells since (after v before) looks.no_look
-      ∙ ap (λ n. capped (n + counted e.port e.device k since)) (tells_none_from_look v none before looks.from_look) ∙ omega arith
+      ∙ ap (λ n. capped (n + counted e.address k since)) (tells_none_from_look v none before looks.from_look) ∙ omega arith
 
 -- ---- of every log that follows the rules
 

@@ -5,6 +5,7 @@ use lib.ListN.{length-replicate}
 use Rattle.std.proofs.lemmas.List.{get_or-replicate}
 use Rattle.std.proofs.lemmas.Bool.Decides.{nat_tests}
 use Rattle.std.specs.List.{AllByRecursion}
+use Rattle.frame.specs.Addresses.{same_address}
 use Rattle.bank.specs.Slots.{SlotMeaning}
 use Rattle.bits.specs.Bits.{bit}
 use Rattle.mmd.specs.Events.{same}
@@ -58,17 +59,17 @@ module _ (e : LatchEntry) (i watcher b l : ℕ) (sense : Bool) (below : watcher 
   asked_up (Finish r c) v was is = is
   asked_up Reset v was is = is
 
-  called_up : (c : Call) (v : LatchView) (was : Bool) → v.up ≡ same sense was → (view_called (Latch e) i watcher viewing c v).up ≡ same sense (line_called e.port e.device l c was)
+  called_up : (c : Call) (v : LatchView) (was : Bool) → v.up ≡ same sense was → (view_called (Latch e) i watcher viewing c v).up ≡ same sense (line_called e.address l c was)
   called_up (WatchRead w j) v was is = grind (arith, nat_tests)
-  called_up (At p d q) v was is = let asks = asked_up q v was is in grind (arith, nat_tests)
+  called_up (At p q) v was is = let asks = asked_up q v was is in grind (arith, nat_tests)
 
-  by_up : (x : Exchange) (v : LatchView) (was : Bool) → v.up ≡ same sense was → (by x v).up ≡ same sense (line_by e.port e.device l x was)
+  by_up : (x : Exchange) (v : LatchView) (was : Bool) → v.up ≡ same sense was → (by x v).up ≡ same sense (line_by e.address l x was)
   by_up x v was is = let calls = called_up x.call v was is in grind (arith, nat_tests)
 
   -- the view's line is the log's
-  after_up : (log : Log) (v : LatchView) (was : Bool) → v.up ≡ same sense was → (after v log).up ≡ same sense (line_after e.port e.device l was log)
+  after_up : (log : Log) (v : LatchView) (was : Bool) → v.up ≡ same sense was → (after v log).up ≡ same sense (line_after e.address l was log)
   after_up [] v was is = is
-  after_up (x ∷ log) v was is = after_up log (by x v) (line_by e.port e.device l x was) (by_up x v was is)
+  after_up (x ∷ log) v was is = after_up log (by x v) (line_by e.address l x was) (by_up x v was is)
 
   -- ---- a call that is unlooked look of this watcher leaves what it would be told, and adds the moment at its end
 
@@ -84,9 +85,9 @@ module _ (e : LatchEntry) (i watcher b l : ℕ) (sense : Bool) (below : watcher 
   called_tells : (c : Call) (v : LatchView) → UpStands v → is_watch_read watcher i c ≡ false
       → (would_tell (view_called (Latch e) i watcher viewing c v) ≡ (would_tell v || (view_called (Latch e) i watcher viewing c v).up)) × UpStands (view_called (Latch e) i watcher viewing c v)
   called_tells (WatchRead w j) v holds unlooked = (grind (arith, nat_tests), λ u. grind (arith, nat_tests))
-  called_tells (At p d q) v holds unlooked =
+  called_tells (At p q) v holds unlooked =
       let asks = asked_tells q v holds in
-      elim (eqb p e.port && eqb d e.device)
+      elim (same_address p e.address)
       as (λ here. (would_tell (cond here (view_asked (Latch e) i watcher viewing q v) v) ≡ (would_tell v || (cond here (view_asked (Latch e) i watcher viewing q v) v).up)) × UpStands (cond here (view_asked (Latch e) i watcher viewing q v) v))
       [ true ↦ asks | false ↦ (grind (arith, nat_tests), holds) ]
 
@@ -99,7 +100,7 @@ module _ (e : LatchEntry) (i watcher b l : ℕ) (sense : Bool) (below : watcher 
 
   called_look : (c : Call) (v : LatchView) → is_watch_read watcher i c ≡ true → view_called (Latch e) i watcher viewing c v ≡ latch_emptied (latch_read v)
   called_look (WatchRead w j) v is_one = grind (arith, nat_tests)
-  called_look (At p d q) v is_one = let z : ◌≡◌ {A = ℕ} 0 1 = cc in absurd (omega arith)
+  called_look (At p q) v is_one = let z : ◌≡◌ {A = ℕ} 0 1 = cc in absurd (omega arith)
 
   by_look : (x : Exchange) (v : LatchView) → is_look watcher i x ≡ true → by x v ≡ latch_emptied (latch_read v)
   by_look x v is_one =
@@ -199,7 +200,7 @@ latches_told slots entries log in_order keep right watcher i b l sense e m befor
     let fresh = fresh_from_look e i watcher b l sense below fits v (refl, refl) before looks.since_previous.from_look in
     let split : (more : Log) → view_after (Latch e) i watcher watching v (before ++ more) ≡ view_after (Latch e) i watcher watching first more = after_append e i watcher b l sense below fits v before in
     let moments = told_by_moments e i watcher b l sense below fits first fresh since looks.since_previous.no_look in
-    let line_up : (past : Log) → (view_after (Latch e) i watcher watching v past).up ≡ same sense (line_after e.port e.device l (m.line l) past) =
+    let line_up : (past : Log) → (view_after (Latch e) i watcher watching v past).up ≡ same sense (line_after e.address l (m.line l) past) =
     λ past. after_up e i watcher b l sense below fits past v (m.line l) refl in (
       λ told.
           let now_so : would_tell all ≡ true = sym bits ∙ (at_sense sense (bit (value_of look.answer) b)).1 told in
@@ -207,13 +208,13 @@ latches_told slots entries log in_order keep right watcher i b l sense e m befor
             moment.0,
             moment.1,
             moment.2,
-            (at_sense sense (line_after e.port e.device l (m.line l) (before ++ moment.0))).0
+            (at_sense sense (line_after e.address l (m.line l) (before ++ moment.0))).0
                 (sym (line_up (before ++ moment.0)) ∙ ap (λ w. w.up) (split moment.0) ∙ moment.3),
           ),
       λ moment.
           let up : (view_after (Latch e) i watcher watching first moment.0).up ≡ true =
           ap (λ w. w.up) (sym (split moment.0)) ∙ line_up (before ++ moment.0)
-          ∙ (at_sense sense (line_after e.port e.device l (m.line l) (before ++ moment.0))).1 moment.3 in
+          ∙ (at_sense sense (line_after e.address l (m.line l) (before ++ moment.0))).1 moment.3 in
           let now_so = moments.1 (moment.0, moment.1, moment.2, up) in
           (at_sense sense (bit (value_of look.answer) b)).0 (bits ∙ ap would_tell (split since) ∙ now_so),
     )

@@ -63,7 +63,7 @@ accepted_look watcher i x m right look =
   where
     named : (c : Call) → is_watch_read watcher i c ≡ true → c ≡ WatchRead watcher i
     named (WatchRead w j) is = let a : w ≡ watcher = grind (arith, nat_tests) in let b : j ≡ i = grind (arith, nat_tests) in ap₂ WatchRead a b
-    named (At p d q) is = let z : ◌≡◌ {A = ℕ} 0 1 = cc in absurd (omega arith)
+    named (At p q) is = let z : ◌≡◌ {A = ℕ} 0 1 = cc in absurd (omega arith)
 
 within : (watcher : ℕ) (o : Option Watched) (slots : List SlotMeaning) → watch_verdict watcher o slots ≡ None → watcher < 8
 within watcher None slots none = let z : ◌≡◌ {A = ℕ} 0 1 = cc in absurd (omega arith)

@@ -6,6 +6,7 @@ use Rattle.std.proofs.Common.{◌≡◌, ℕ, zero, suc, ◌≤◌, Bool, true, 
 use Rattle.std.proofs.lemmas.Bool.Decides.{nat_tests}
 use Rattle.std.specs.List.{slice_get}
 use Rattle.std.specs.Option.{option_map}
+use Rattle.frame.proofs.Addresses.{one_address}
 use Rattle.bank.specs.Slots.{SlotMeaning}
 use Rattle.bus.specs.Places.{Place, no_port, no_device, found, place, on_found}
 use Rattle.bus.proofs.Places.{found_keeps}
@@ -14,7 +15,7 @@ use Rattle.mmd.specs.Invariant.{Keeps}
 use Rattle.mmd.specs.Meaning.{Meaning}
 use Rattle.call.specs.declared.call.Request.{Request}
 use Rattle.call.specs.declared.call.Request.TheVariants.{Line, Count as CountRequest}
-use Rattle.watch_list.specs.Entries.{port_of, device_of, is_of, fed_by, names}
+use Rattle.watch_list.specs.Entries.{address_of, is_of, fed_by, names}
 use Rattle.watch_list.specs.Lists.{WellListed}
 use Rattle.watch_list.specs.Watches.{entry_of, after_look, taken_in}
 use Rattle.watch_list.specs.declared.entry.Entry.{Entry}
@@ -102,7 +103,7 @@ module _ (entries : List Entry) (in_order : WellListed entries) (entry : Entry) 
   own_entry m v s = let e = entry_at m.watched entries i s.kept s.same_entries s.in_list in cc
 
   mmd_keeps : (m : State) (v : viewing.View) (s : SeesHere m v) → Keeps s.mmd
-  mmd_keeps m v s = found_keeps (port_of entry) (device_of entry) m.slots s.mmd s.slots_keep s.at_place
+  mmd_keeps m v s = found_keeps (address_of entry) m.slots s.mmd s.slots_keep s.at_place
 
   pub took_own : (m : State) (v : viewing.View) → SeesHere m v → SeesHere (took i m) (viewing.read v)
   took_own m v s =
@@ -133,20 +134,19 @@ module _ (entries : List Entry) (in_order : WellListed entries) (entry : Entry) 
       (viewing.shows_other_read mmd v e.high (λ h. grind (arith, nat_tests)) shows)
 
   module _ (m : State) (v : viewing.View) (s : SeesHere m v) (j : ℕ) (apart : i ≡ j → ⊥) (x : Watched) (here : slice_get m.watched j ≡ Some x) where
-    unnamed_there : is_of (port_of entry) (device_of entry) (entry_of x) ≡ true → names (fed_by entry) (entry_of x) ≡ false
+    unnamed_there : is_of (address_of entry) (entry_of x) ≡ true → names (fed_by entry) (entry_of x) ≡ false
     unnamed_there same =
         in_order.apart i j entry (entry_of x) listed (entry_at m.watched entries j x s.same_entries here) apart same (fed_by entry) (feeds_itself entry)
 
-    took_other_found : (mmd : Meaning) → place_of (entry_of x) m.slots ≡ found mmd → (same : Bool) → is_of (port_of entry) (device_of entry) (entry_of x) ≡ same
+    took_other_found : (mmd : Meaning) → place_of (entry_of x) m.slots ≡ found mmd → (same : Bool) → is_of (address_of entry) (entry_of x) ≡ same
         → SeesHere (took_found j (entry_of x) x mmd m) v
     took_other_found mmd at true same =
-        let p : port_of (entry_of x) ≡ port_of entry = grind (arith, nat_tests) in
-        let d : device_of (entry_of x) ≡ device_of entry = grind (arith, nat_tests) in
+        let there : address_of (entry_of x) ≡ address_of entry = one_address (address_of (entry_of x)) (address_of entry) same in
         record {
           mmd = after_entry (entry_of x) s.mmd;
           kept = s.kept;
-          at_place = ap₂ (λ a b. place a b (entry_read (entry_of x) m.slots)) (sym p) (sym d) ∙ place_entry_read (entry_of x) m.slots
-              ∙ ap (on_found (after_entry (entry_of x))) (ap₂ (λ a b. place a b m.slots) p d ∙ s.at_place);
+          at_place = ap (λ a. place a (entry_read (entry_of x) m.slots)) (sym there) ∙ place_entry_read (entry_of x) m.slots
+              ∙ ap (on_found (after_entry (entry_of x))) (ap (λ a. place a m.slots) there ∙ s.at_place);
           in_list = nth_set_other m.watched j i _ (λ e. apart (sym e)) ∙ s.in_list;
           same_entries = map_set m.watched j x _ here (entry_of_taken_in (first_word mmd (entry_of x)) (second_word mmd (entry_of x)) x) ∙ s.same_entries;
           slots_keep = entry_read_keeps (entry_of x) m.slots s.slots_keep;
@@ -157,7 +157,7 @@ module _ (entries : List Entry) (in_order : WellListed entries) (entry : Entry) 
         record {
           mmd = s.mmd;
           kept = s.kept;
-          at_place = place_entry_read_elsewhere (entry_of x) (port_of entry) (device_of entry) m.slots other ∙ s.at_place;
+          at_place = place_entry_read_elsewhere (entry_of x) (address_of entry) m.slots other ∙ s.at_place;
           in_list = nth_set_other m.watched j i _ (λ e. apart (sym e)) ∙ s.in_list;
           same_entries = map_set m.watched j x _ here (entry_of_taken_in (first_word mmd (entry_of x)) (second_word mmd (entry_of x)) x) ∙ s.same_entries;
           slots_keep = entry_read_keeps (entry_of x) m.slots s.slots_keep;
@@ -168,7 +168,7 @@ module _ (entries : List Entry) (in_order : WellListed entries) (entry : Entry) 
     took_other_at : (p : Place) → place_of (entry_of x) m.slots ≡ p → SeesHere (took_at j x p m) v
     took_other_at no_port at = s
     took_other_at no_device at = s
-    took_other_at (found mmd) at = took_other_found mmd at (is_of (port_of entry) (device_of entry) (entry_of x)) refl
+    took_other_at (found mmd) at = took_other_found mmd at (is_of (address_of entry) (entry_of x)) refl
 
   took_other_nth : (m : State) (v : viewing.View) → SeesHere m v → (j : ℕ) → (i ≡ j → ⊥) → (o : Option Watched) → slice_get m.watched j ≡ o → SeesHere (took_nth j o m) v
   took_other_nth m v s j apart None here = s

@@ -3,9 +3,11 @@
 use Rattle.std.specs.Prelude.{ℕ, zero, suc, ◌+◌, ◌%◌, Bool, true, false, cond, ◌&&◌, List, [], ◌∷◌, map, length, Some, None, Ok, Err, Option, Result, ◌==◌, nat_le, slice_set}
 use Rattle.std.specs.List.{slice_get}
 use Rattle.bank.specs.Slots.{SlotMeaning, next_place}
-use Rattle.bus.specs.Places.{Place, no_port, no_device, found, place, register_read, register_written, event_taken, addressable}
-use Rattle.bus.specs.declared.answer.Event.{Event}
-use Rattle.bus.specs.declared.answer.Event.TheVariants.{Line as LineEvent, Count as CountEvent, Finish as FinishEvent, Reset as ResetEvent}
+use Rattle.bus.specs.Places.{Place, no_port, no_device, found, place, register_read, register_written, event_taken}
+use Rattle.frame.specs.Addresses.{addressable}
+use Rattle.frame.specs.declared.address.MmdAddress.{MmdAddress}
+use Rattle.mmd.specs.declared.event.Event.{Event}
+use Rattle.mmd.specs.declared.event.Event.TheVariants.{Line as LineEvent, Count as CountEvent, Finish as FinishEvent, Reset as ResetEvent}
 use Rattle.mmd.specs.Events.{after_read}
 use Rattle.mmd.specs.Meaning.{Meaning, read_word}
 use Rattle.mmd.specs.Refusals.{count_answer, finish_answer}
@@ -18,7 +20,7 @@ use Rattle.call.specs.declared.answer.Answer.{Answer}
 use Rattle.call.specs.declared.answer.Answer.TheVariants.{Data, Told, Done, Refused}
 use Rattle.call.specs.declared.answer.CallRefusal.{CallRefusal}
 use Rattle.call.specs.declared.answer.CallRefusal.TheVariants.{OutOfRange, NoPort, NoDevice, Mmd}
-use Rattle.watch_list.specs.Entries.{port_of, device_of, is_of, fed_by}
+use Rattle.watch_list.specs.Entries.{address_of, is_of, fed_by}
 use Rattle.watch_list.specs.Watches.{entry_of, new_watched, told, after_look, taken_in}
 use Rattle.watch_list.specs.declared.entry.Entry.{Entry}
 use Rattle.watch_list.specs.declared.entry.Entry.TheVariants.{Latch as EntryLatch, Count as EntryCount}
@@ -50,8 +52,8 @@ second_word m (EntryLatch e) = 0
 second_word m (EntryCount e) = read_word (after_read m e.high) e.low
 
 abbrev pub entry_read : Entry → List SlotMeaning → List SlotMeaning
-entry_read (EntryLatch e) slots = register_read e.port e.device e.register slots
-entry_read (EntryCount e) slots = register_read e.port e.device e.low (register_read e.port e.device e.high slots)
+entry_read (EntryLatch e) slots = register_read e.address e.register slots
+entry_read (EntryCount e) slots = register_read e.address e.low (register_read e.address e.high slots)
 
 -- two frames for each register
 abbrev pub entry_frames : Entry → ℕ
@@ -59,7 +61,7 @@ entry_frames (EntryLatch e) = 2
 entry_frames (EntryCount e) = 4
 
 abbrev pub place_of : Entry → List SlotMeaning → Place
-place_of e slots = place (port_of e) (device_of e) slots
+place_of e slots = place (address_of e) slots
 
 abbrev pub took_at : ℕ → Watched → Place → State → State
 took_at i w no_port m = m
@@ -80,32 +82,32 @@ took i m = took_nth i (slice_get m.watched i) m
 
 -- ---- all entries of the MMD at an address, in list order: the first k entries of the list are looked through
 
-abbrev pub is_of_mmd : ℕ → ℕ → Option Watched → Bool
-is_of_mmd port device None = false
-is_of_mmd port device (Some w) = is_of port device (entry_of w)
+abbrev pub is_of_mmd : MmdAddress → Option Watched → Bool
+is_of_mmd address None = false
+is_of_mmd address (Some w) = is_of address (entry_of w)
 
-abbrev pub sweep_step : ℕ → ℕ → ℕ → State → State
-sweep_step port device k m = cond (is_of_mmd port device (slice_get m.watched k)) (took k m) m
+abbrev pub sweep_step : MmdAddress → ℕ → State → State
+sweep_step address k m = cond (is_of_mmd address (slice_get m.watched k)) (took k m) m
 
-unfoldable pub swept : ℕ → ℕ → ℕ → State → State
-swept port device zero m = m
-swept port device (suc k) m = sweep_step port device k (swept port device k m)
+unfoldable pub swept : MmdAddress → ℕ → State → State
+swept address zero m = m
+swept address (suc k) m = sweep_step address k (swept address k m)
 
 -- ---- a plain read
 
 -- whether reading a register feeds an entry
-abbrev pub hears : ℕ → ℕ → ℕ → Watched → Bool
-hears port device register w = is_of port device (entry_of w) && fed_by (entry_of w) == register
+abbrev pub hears : MmdAddress → ℕ → Watched → Bool
+hears address register w = is_of address (entry_of w) && fed_by (entry_of w) == register
 
 -- the number of the entry that the register feeds; there is one at most in a list that passed its check
-unfoldable pub hearing : ℕ → ℕ → ℕ → List Watched → Option ℕ
-hearing port device register [] = None
-hearing port device register (w ∷ ws) = cond (hears port device register w) (Some 0) (next_place (hearing port device register ws))
+unfoldable pub hearing : MmdAddress → ℕ → List Watched → Option ℕ
+hearing address register [] = None
+hearing address register (w ∷ ws) = cond (hears address register w) (Some 0) (next_place (hearing address register ws))
 
-abbrev pub read_by : ℕ → ℕ → ℕ → Option ℕ → State → State
-read_by port device register None m =
-    record { slots = register_read port device register m.slots; frames = more_frames 2 m.frames; watched = m.watched }
-read_by port device register (Some i) m = took i m
+abbrev pub read_by : MmdAddress → ℕ → Option ℕ → State → State
+read_by address register None m =
+    record { slots = register_read address register m.slots; frames = more_frames 2 m.frames; watched = m.watched }
+read_by address register (Some i) m = took i m
 
 -- ---- a watch read: the entry is read, and then the asking watcher's word is emptied
 
@@ -152,32 +154,32 @@ abbrev pub watch_verdict : ℕ → Option Watched → List SlotMeaning → Optio
 watch_verdict watcher None slots = Some OutOfRange
 watch_verdict watcher (Some w) slots = cond (nat_le watcher 7) (place_verdict (λ _. None) (place_of (entry_of w) slots)) (Some OutOfRange)
 
-abbrev pub request_verdict : ℕ → ℕ → Request → List SlotMeaning → Option CallRefusal
-request_verdict port device request slots =
-    cond (addressable port device && in_range request) (place_verdict (mmd_verdict request) (place port device slots)) (Some OutOfRange)
+abbrev pub request_verdict : MmdAddress → Request → List SlotMeaning → Option CallRefusal
+request_verdict address request slots =
+    cond (addressable address && in_range request) (place_verdict (mmd_verdict request) (place address slots)) (Some OutOfRange)
 
 -- none where the call is admitted
 unfoldable pub verdict : Call → State → Option CallRefusal
 verdict (WatchRead watcher i) m = watch_verdict watcher (slice_get m.watched i) m.slots
-verdict (At port device request) m = request_verdict port device request m.slots
+verdict (At address request) m = request_verdict address request m.slots
 
 -- ---- what an admitted call leaves, and what it is answered
 
-abbrev pub evented : ℕ → ℕ → Event → State → State
-evented port device event m = record { slots = event_taken port device event m.slots; frames = m.frames; watched = m.watched }
+abbrev pub evented : MmdAddress → Event → State → State
+evented address event m = record { slots = event_taken address event m.slots; frames = m.frames; watched = m.watched }
 
-abbrev pub requested : ℕ → ℕ → Request → State → State
-requested port device (Read register) m = read_by port device register (hearing port device register m.watched) m
-requested port device (Write register word) m =
-    record { slots = register_written port device register word m.slots; frames = more_frames 2 m.frames; watched = m.watched }
-requested port device (Line number up) m = evented port device (LineEvent number up) m
-requested port device (Count counter amount) m = evented port device (CountEvent counter amount) m
-requested port device (Finish register b) m = evented port device (FinishEvent register b) m
-requested port device Reset m = evented port device ResetEvent (swept port device (length m.watched) m)
+abbrev pub requested : MmdAddress → Request → State → State
+requested address (Read register) m = read_by address register (hearing address register m.watched) m
+requested address (Write register word) m =
+    record { slots = register_written address register word m.slots; frames = more_frames 2 m.frames; watched = m.watched }
+requested address (Line number up) m = evented address (LineEvent number up) m
+requested address (Count counter amount) m = evented address (CountEvent counter amount) m
+requested address (Finish register b) m = evented address (FinishEvent register b) m
+requested address Reset m = evented address ResetEvent (swept address (length m.watched) m)
 
 unfoldable pub admitted : Call → State → State
 admitted (WatchRead watcher i) m = looked watcher i (took i m)
-admitted (At port device request) m = requested port device request m
+admitted (At address request) m = requested address request m
 
 -- a call at an absent place is refused before this is asked
 abbrev pub data_of : ℕ → Place → ℕ
@@ -185,17 +187,17 @@ data_of register no_port = 0
 data_of register no_device = 0
 data_of register (found m) = read_word m register
 
-abbrev pub request_reply : ℕ → ℕ → Request → State → Answer
-request_reply port device (Read register) m = Data (data_of register (place port device m.slots))
-request_reply port device (Write register word) m = Done
-request_reply port device (Line number up) m = Done
-request_reply port device (Count counter amount) m = Done
-request_reply port device (Finish register b) m = Done
-request_reply port device Reset m = Done
+abbrev pub request_reply : MmdAddress → Request → State → Answer
+request_reply address (Read register) m = Data (data_of register (place address m.slots))
+request_reply address (Write register word) m = Done
+request_reply address (Line number up) m = Done
+request_reply address (Count counter amount) m = Done
+request_reply address (Finish register b) m = Done
+request_reply address Reset m = Done
 
 unfoldable pub reply : Call → State → Answer
 reply (WatchRead watcher i) m = Told (told_nth watcher (slice_get (took i m).watched i))
-reply (At port device request) m = request_reply port device request m
+reply (At address request) m = request_reply address request m
 
 -- ---- every call: its one answer, and the state after it
 

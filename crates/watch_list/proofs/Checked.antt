@@ -9,7 +9,7 @@ use Rattle.watch_list.specs.declared.fault.ListFault.TheVariants.{TooManyEntries
 
 -- the entry at no place, as a loop writes it
 abbrev pub zero_entry : Entry
-zero_entry = Latch (record { port = 0; device = 0; register = 0; high_mask = 0; low_mask = 0 })
+zero_entry = Latch (record { address = record { port = 0; device = 0 }; register = 0; high_mask = 0; low_mask = 0 })
 
 -- one earlier entry more
 pub taken_at : (earlier : List Entry) (e : Entry) (i : ℕ) (here : Bool) → i < length earlier → here ≡ clashes e (get_or earlier i zero_entry)

@@ -4,7 +4,7 @@ use Rattle.std.specs.List.{slice_get}
 use Rattle.std.proofs.lemmas.Bool.{cases_Bool, cases_order, eq-eqb}
 use Rattle.std.proofs.lemmas.Bool.Decides.{nat_tests}
 use Rattle.watch_list.specs.Checks.{check_behind, check_of, clashes, entry_fault, is_taken, refused_at, shares_register, well_formed, PassesExactly}
-use Rattle.watch_list.specs.Entries.{device_of, is_of, names, port_of}
+use Rattle.watch_list.specs.Entries.{address_of, is_of, names}
 use Rattle.watch_list.specs.Lists.{WellFormed, WellListed}
 use Rattle.watch_list.specs.declared.entry.Entry.{Entry}
 use Rattle.watch_list.specs.declared.entry.Entry.TheVariants.{Latch, Count}
@@ -25,7 +25,7 @@ test_by_formed (Count e) h = grind (arith, nat_tests)
 
 -- no register is named by both, where they are of one MMD
 abbrev Apart : Entry → Entry → Type 0
-Apart e f = is_of (port_of e) (device_of e) f ≡ true → (r : ℕ) → names r e ≡ true → names r f ≡ false
+Apart e f = is_of (address_of e) f ≡ true → (r : ℕ) → names r e ≡ true → names r f ≡ false
 
 unshared : (e f : Entry) (r : ℕ) → shares_register e f ≡ false → names r e ≡ true → names r f ≡ false
 unshared (Latch e) (Latch f) r none named = grind (arith, nat_tests)
@@ -44,13 +44,13 @@ apart_by_test e f none same r named = unshared e f r (grind (arith, nat_tests)) 
 test_by_apart : (e f : Entry) → Apart e f → clashes e f ≡ false
 test_by_apart e f apart =
     ⊎_elim
-    (λ (same : is_of (port_of e) (device_of e) f ≡ true). let none = shares_none e f (apart same) in cc)
-    (λ (other : is_of (port_of e) (device_of e) f ≡ false). cc)
-    (cases_Bool (is_of (port_of e) (device_of e) f))
+    (λ (same : is_of (address_of e) f ≡ true). let none = shares_none e f (apart same) in cc)
+    (λ (other : is_of (address_of e) f ≡ false). cc)
+    (cases_Bool (is_of (address_of e) f))
 
 apart_flips : (e f : Entry) → Apart f e → Apart e f
 apart_flips e f apart same r named =
-    let back : is_of (port_of f) (device_of f) e ≡ true = grind (arith, nat_tests) in
+    let back : is_of (address_of f) e ≡ true = grind (arith, nat_tests) in
     ⊎_elim (λ (both : names r f ≡ true). let not_named = apart back r both in cc) (λ one. one) (cases_Bool (names r f))
 
 -- ---- an entry behind the earlier ones

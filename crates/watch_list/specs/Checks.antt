@@ -1,6 +1,7 @@
 -- Which watch lists are refused: too many entries first, then entry by entry from the first, each by the rules in their order.
-use Rattle.std.specs.Prelude.{◌≡◌, ℕ, Bool, false, cond, not, ◌&&◌, ◌||◌, List, [], ◌∷◌, ◌++◌, length, Some, None, Ok, Err, Option, Result, ◌==◌, bit_and, nat_le, nat_lt}
-use Rattle.watch_list.specs.Entries.{device_of, is_of, names, port_of}
+use Rattle.std.specs.Prelude.{◌≡◌, ℕ, Bool, false, if◌then◌else◌, not, ◌&&◌, ◌||◌, List, [], ◌∷◌, ◌++◌, length, Some, None, Ok, Err, Option, Result, ◌==◌, bit_and, nat_lt}
+use Rattle.frame.specs.Addresses.{addressable}
+use Rattle.watch_list.specs.Entries.{address_of, is_of, names}
 use Rattle.watch_list.specs.Lists.{WellListed}
 use Rattle.watch_list.specs.declared.entry.Entry.{Entry}
 use Rattle.watch_list.specs.declared.entry.Entry.TheVariants.{Latch, Count}
@@ -17,8 +18,8 @@ number_of RegisterTaken = 22
 -- ---- the tests of an entry
 
 abbrev pub well_formed : Entry → Bool
-well_formed (Latch e) = nat_le e.port 31 && (nat_le e.device 31 && bit_and e.high_mask e.low_mask == 0)
-well_formed (Count e) = nat_le e.port 31 && (nat_le e.device 31 && not (e.high == e.low))
+well_formed (Latch e) = addressable e.address && bit_and e.high_mask e.low_mask == 0
+well_formed (Count e) = addressable e.address && not (e.high == e.low)
 
 -- one of an entry's registers is named by another entry too
 abbrev pub shares_register : Entry → Entry → Bool
@@ -26,7 +27,7 @@ shares_register (Latch e) f = names e.register f
 shares_register (Count e) f = names e.high f || names e.low f
 
 abbrev pub clashes : Entry → Entry → Bool
-clashes e f = is_of (port_of e) (device_of e) f && shares_register e f
+clashes e f = is_of (address_of e) f && shares_register e f
 
 -- an earlier entry of that MMD names one of its registers
 abbrev pub is_taken : List Entry → Entry → Bool
@@ -35,7 +36,7 @@ is_taken (f ∷ earlier) e = clashes e f || is_taken earlier e
 
 -- the first rule that an entry breaks after these
 abbrev pub entry_fault : List Entry → Entry → Option ListFault
-entry_fault earlier e = cond (well_formed e) (cond (is_taken earlier e) (Some RegisterTaken) None) (Some Malformed)
+entry_fault earlier e = if well_formed e then (if is_taken earlier e then Some RegisterTaken else None) else Some Malformed
 
 -- ---- the tests of a list
 
@@ -51,7 +52,7 @@ check_behind earlier (e ∷ rest) = refused_at (entry_fault earlier e) (length e
 -- what a list is refused for: 20, then 21 and 22 entry by entry
 unfoldable pub check_of : List Entry → Result (Unit {0}) ListFaultAt
 check_of entries =
-    cond (nat_lt 16 (length entries)) (Err (record { fault = TooManyEntries; place = 16 })) (check_behind [] entries)
+    if nat_lt 16 (length entries) then Err (record { fault = TooManyEntries; place = 16 }) else check_behind [] entries
 
 -- the lists in order pass, and no others
 abbrev pub PassesExactly : List Entry → Type 0

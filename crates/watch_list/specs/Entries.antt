@@ -1,19 +1,17 @@
 -- Which MMD an entry of the watch list names, and which registers.
-use Rattle.std.specs.Prelude.{ℕ, Bool, ◌&&◌, ◌||◌, ◌==◌}
+use Rattle.std.specs.Prelude.{ℕ, Bool, ◌||◌, ◌==◌}
+use Rattle.frame.specs.Addresses.{same_address}
+use Rattle.frame.specs.declared.address.MmdAddress.{MmdAddress}
 use Rattle.watch_list.specs.declared.entry.Entry.{Entry}
 use Rattle.watch_list.specs.declared.entry.Entry.TheVariants.{Latch, Count}
 
-abbrev pub port_of : Entry → ℕ
-port_of (Latch e) = e.port
-port_of (Count e) = e.port
-
-abbrev pub device_of : Entry → ℕ
-device_of (Latch e) = e.device
-device_of (Count e) = e.device
+abbrev pub address_of : Entry → MmdAddress
+address_of (Latch e) = e.address
+address_of (Count e) = e.address
 
 -- whether an entry is of the MMD at an address
-abbrev pub is_of : ℕ → ℕ → Entry → Bool
-is_of port device e = port_of e == port && device_of e == device
+abbrev pub is_of : MmdAddress → Entry → Bool
+is_of address e = same_address (address_of e) address
 
 -- the register whose reading feeds an entry: its own, or the high half's
 abbrev pub fed_by : Entry → ℕ

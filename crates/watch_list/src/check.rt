@@ -1,20 +1,11 @@
 // The check of a watch list: entry by entry from the first, each by the rules in their order.
-ghost use Rattle.std.specs.Prelude.{◌≡◌, not, ◌&&◌, length, ◌==◌, bit_and, nat_le, nat_lt};
+ghost use Rattle.std.specs.Prelude.{◌≡◌, not, length, ◌==◌, bit_and, nat_lt};
 ghost use Rattle.watch_list.specs.Checks.{check_of, clashes, entry_fault, is_taken, shares_register, well_formed, PassesExactly};
 
 use crate::entry::{CountEntry, Entry, LatchEntry};
 use crate::fault::{ListFault, ListFaultAt};
 
 const MOST_ENTRIES: usize = 16;
-
-const LAST_ADDRESS: u8 = 31;
-
-// A frame can name the port and the device.
-fn address_fits(port: u8, device: u8) -> bool
-    ensures { result ≡ (nat_le port 31 && nat_le device 31) }
-{
-    port <= LAST_ADDRESS && device <= LAST_ADDRESS
-}
 
 // No bit is in both masks.
 fn masks_apart(entry: &LatchEntry) -> bool
@@ -33,8 +24,8 @@ fn well_formed(entry: &Entry) -> bool
     ensures { result ≡ well_formed entry.now }
 {
     match entry {
-        Entry::Latch(latch) => address_fits(latch.port, latch.device) && masks_apart(latch),
-        Entry::Count(count) => address_fits(count.port, count.device) && halves_apart(count),
+        Entry::Latch(latch) => latch.address.is_addressable() && masks_apart(latch),
+        Entry::Count(count) => count.address.is_addressable() && halves_apart(count),
     }
 }
 
@@ -52,7 +43,7 @@ fn shares_register(entry: &Entry, other: &Entry) -> bool
 fn clashes(entry: &Entry, other: &Entry) -> bool
     ensures { result ≡ clashes entry.now other.now }
 {
-    other.is_of(entry.port(), entry.device()) && shares_register(entry, other)
+    other.is_of(entry.address()) && shares_register(entry, other)
 }
 
 // An earlier entry of that MMD names one of the entry's registers.

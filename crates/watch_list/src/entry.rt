@@ -1,14 +1,14 @@
 // An entry of the watch list: a register with latching bits, or the two halves of a counter.
-ghost use Rattle.std.specs.Prelude.{◌≡◌, ◌&&◌, ◌==◌};
-ghost use Rattle.watch_list.specs.Entries.{device_of, fed_by, is_of, names, port_of};
+ghost use Rattle.std.specs.Prelude.{◌≡◌, ◌==◌};
+ghost use Rattle.watch_list.specs.Entries.{address_of, fed_by, is_of, names};
 ghost use Rattle.watch_list.specs.Watches.{latch_told};
 
+use frame::address::MmdAddress;
 use joining::latch::LatchWord;
 
 #[derive(Clone, Copy)]
 pub struct LatchEntry {
-    pub port: u8,
-    pub device: u8,
+    pub address: MmdAddress,
     pub register: u16,
     // the bits that are told as one where any reading had a one
     pub high_mask: u16,
@@ -27,8 +27,7 @@ impl LatchEntry {
 
 #[derive(Clone, Copy)]
 pub struct CountEntry {
-    pub port: u8,
-    pub device: u8,
+    pub address: MmdAddress,
     // the registers of the high half and of the low half
     pub high: u16,
     pub low: u16,
@@ -41,29 +40,20 @@ pub enum Entry {
 }
 
 impl Entry {
-    pub fn port(&self) -> u8
-        ensures { result ≡ port_of self.now }
+    pub fn address(&self) -> MmdAddress
+        ensures { result ≡ address_of self.now }
     {
         match self {
-            Entry::Latch(entry) => entry.port,
-            Entry::Count(entry) => entry.port,
-        }
-    }
-
-    pub fn device(&self) -> u8
-        ensures { result ≡ device_of self.now }
-    {
-        match self {
-            Entry::Latch(entry) => entry.device,
-            Entry::Count(entry) => entry.device,
+            Entry::Latch(entry) => entry.address,
+            Entry::Count(entry) => entry.address,
         }
     }
 
     // Whether the entry is of the MMD at that address.
-    pub fn is_of(&self, port: u8, device: u8) -> bool
-        ensures { result ≡ is_of port device self.now }
+    pub fn is_of(&self, address: MmdAddress) -> bool
+        ensures { result ≡ is_of address self.now }
     {
-        self.port() == port && self.device() == device
+        self.address() == address
     }
 
     // Whether a reading of that register feeds the entry: its own register, or that of the high half.
