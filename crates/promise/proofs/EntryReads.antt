@@ -1,5 +1,5 @@
 -- What reading an entry's registers does at each address.
-use Rattle.std.proofs.Common.{◌≡◌, ℕ, false, List, refl, ap, ◌∙◌}
+use Rattle.std.proofs.Common.{◌≡◌, false, List, refl, ap, ◌∙◌}
 use Rattle.std.specs.List.{AllByRecursion}
 use Rattle.frame.specs.declared.address.MmdAddress.{MmdAddress}
 use Rattle.frame.specs.Addresses.{same_address}

@@ -1,8 +1,8 @@
 -- Calls that name an MMD get the same answers whatever stands beside it: of every two runs.
-use Rattle.std.proofs.Common.{◌≡◌, ℕ, Bool, true, false, cond, ◌&&◌, leb, List, [], ◌∷◌, Some, None, Option, sym, refl, ap, ◌∙◌, subst, ap₂, arith}
-use Rattle.std.proofs.lemmas.Bool.Decides.{nat_tests}
+use Rattle.std.proofs.Common.{◌≡◌, ℕ, Bool, true, false, cond, ◌&&◌, leb, List, [], ◌∷◌, Some, None, Option, sym, refl, ap, ◌∙◌, subst, ap₂}
 use Rattle.std.specs.List.{slice_get}
 use Rattle.frame.specs.declared.address.MmdAddress.{MmdAddress}
+use Rattle.frame.proofs.Addresses.{one_address}
 use Rattle.frame.specs.Addresses.{addressable}
 use Rattle.bank.specs.Slots.{SlotMeaning}
 use Rattle.call.specs.declared.answer.Answer.{Answer}
@@ -68,9 +68,7 @@ module _ (p : MmdAddress) (entries : List Entry) where
   call_alike : (m n : State) → Alike p entries m n → (c : Call) → call_names p entries c ≡ true → AnsweredAlike c m n
   call_alike m n alike (WatchRead w j) names = watch_alike m n alike w j (listed_of p entries m.watched alike.left_entries j ∙ names)
   call_alike m n alike (At q request) names =
-      let qq : p ≡ q = grind (arith, nat_tests) in
-      let cc : d ≡ c = grind (arith, nat_tests) in
-      subst (λ a. AnsweredAlike (At a c request) m n) qq (subst (λ b. AnsweredAlike (At p b request) m n) cc (request_alike m n alike request))
+      subst (λ a. AnsweredAlike (At a request) m n) (sym (one_address q p names)) (request_alike m n alike request)
 
   -- what the verdict decides, it decides alike
   under_alike : (c : Call) (m n : State) → Alike p entries m n → (o : Option CallRefusal) → Alike p entries (admitted c m) (admitted c n)
@@ -95,7 +93,7 @@ module _ (p : MmdAddress) (entries : List Entry) where
       let not_of : is_of_mmd p (slice_get m.watched j) ≡ false = listed_of p entries m.watched alike.left_entries j ∙ other in
       let read = took_left p entries m n alike j not_of in
       looked_left p entries (took j m) n read w j (listed_of p entries (took j m).watched read.left_entries j ∙ other)
-  admitted_left m n alike (At q request) other = requested_left p entries m n alike q (grind (arith, nat_tests)) request
+  admitted_left m n alike (At q request) other = requested_left p entries m n alike q other request
 
   unnamed_call : (m n : State) → Alike p entries m n → (c : Call) → call_names p entries c ≡ false → Alike p entries (after_call c m) n
   unfolding after_call
