@@ -2,11 +2,14 @@
 use Rattle.std.proofs.Common.{◌≡◌, ℕ, ◌<◌, true, false, cond, ◌&&◌, List, length, Some, None, Err, Option, Result, sym, refl, ap, ◌∙◌, ap₂, arith}
 use Rattle.std.proofs.lemmas.Bool.Decides.{nat_tests}
 use Rattle.std.specs.List.{slice_get}
+use Rattle.frame.proofs.Addresses.{one_address}
+use Rattle.frame.specs.declared.address.MmdAddress.{MmdAddress}
+use Rattle.frame.specs.Addresses.{addressable}
 use Rattle.bank.specs.Slots.{SlotMeaning}
-use Rattle.bus.specs.Places.{Place, no_port, no_device, found, accessed, addressable, frames_accessed, place, register_written, write_of}
+use Rattle.bus.specs.Places.{Place, no_port, no_device, found, accessed, frames_accessed, place, register_written, write_of}
 use Rattle.bus.specs.declared.answer.BusRefusal.{BusRefusal}
-use Rattle.bus.specs.declared.answer.Event.{Event}
-use Rattle.bus.specs.declared.answer.Event.TheVariants.{Reset as ResetEvent}
+use Rattle.mmd.specs.declared.event.Event.{Event}
+use Rattle.mmd.specs.declared.event.Event.TheVariants.{Reset as ResetEvent}
 use Rattle.mmd.specs.Meaning.{Meaning}
 use Rattle.call.specs.declared.answer.Answer.TheVariants.{Data, Told, Done}
 use Rattle.call.specs.declared.answer.CallRefusal.{CallRefusal}
@@ -15,7 +18,7 @@ use Rattle.call.specs.declared.call.Call.{Call}
 use Rattle.call.specs.declared.call.Call.TheVariants.{At}
 use Rattle.call.specs.declared.call.Request.TheVariants.{Read, Write, Reset}
 use Rattle.promise.specs.Rules.{State, admitted, after_call, answer_of, answer_under, data_of, evented, hearing, place_of, place_verdict, read_by, reply, state_under, swept, took, verdict}
-use Rattle.watch_list.specs.Entries.{port_of, device_of, fed_by}
+use Rattle.watch_list.specs.Entries.{address_of, fed_by}
 use Rattle.watch_list.specs.Watches.{entry_of}
 use Rattle.station.specs.Named.{all_named}
 use Rattle.station.specs.Outcomes.{access_verdict, data_as, done_as, event_verdict, request_of, result_under, told_as}
@@ -40,115 +43,114 @@ told_under (Some e) word = refl
 
 -- ---- a plain read
 
-module _ (port device register : ℕ) (m after : State) (r : Result ℕ CallRefusal) where
+module _ (address : MmdAddress) (register : ℕ) (m after : State) (r : Result ℕ CallRefusal) where
   abbrev read_call : Call
-  read_call = At port device (Read register)
+  read_call = At address (Read register)
 
-  pub read_unheard : hearing port device register m.watched ≡ None
-      → r ≡ result_under (access_verdict port device m.slots) (data_of register (place port device m.slots))
-      → after ≡ state_under (access_verdict port device m.slots) (read_by port device register None m) m
+  pub read_unheard : hearing address register m.watched ≡ None
+      → r ≡ result_under (access_verdict address m.slots) (data_of register (place address m.slots))
+      → after ≡ state_under (access_verdict address m.slots) (read_by address register None m) m
       → (data_as r ≡ answer_of read_call m) × (after ≡ after_call read_call m)
   unfolding answer_of after_call verdict admitted reply
   read_unheard none told left =
-      let v = access_verdict port device m.slots in
-      (ap data_as told ∙ data_under v (data_of register (place port device m.slots)), left ∙ ap (λ o. state_under v (read_by port device register o m) m) (sym none))
+      let v = access_verdict address m.slots in
+      (ap data_as told ∙ data_under v (data_of register (place address m.slots)), left ∙ ap (λ o. state_under v (read_by address register o m) m) (sym none))
 
-  pub read_heard : (i : ℕ) → hearing port device register m.watched ≡ Some i → all_named m.watched ≡ true
+  pub read_heard : (i : ℕ) → hearing address register m.watched ≡ Some i → all_named m.watched ≡ true
       → r ≡ take_answer (slice_get m.watched i) m.slots → after ≡ took i m
       → (data_as r ≡ answer_of read_call m) × (after ≡ after_call read_call m)
   unfolding answer_of after_call verdict admitted reply
   read_heard i heard named told left =
-      let entry = heard_entry port device register i m.watched heard in
+      let entry = heard_entry address register i m.watched heard in
       let w = entry.0 in
       let hears_it = entry.2 in
-      let same_port : port_of (entry_of w) ≡ port = grind (arith, nat_tests) in
-      let same_device : device_of (entry_of w) ≡ device = grind (arith, nat_tests) in
+      let one : address_of (entry_of w) ≡ address = one_address (address_of (entry_of w)) address (grind (arith, nat_tests)) in
       let fed : fed_by (entry_of w) ≡ register = grind (arith, nat_tests) in
-      let here : addressable port device ≡ true = ap₂ addressable (sym same_port) (sym same_device) ∙ named_nth m.watched i w named entry.1 in
-      let there : place_of (entry_of w) m.slots ≡ place port device m.slots = ap₂ (λ p d. place p d m.slots) same_port same_device in
-      let v = access_verdict port device m.slots in
+      let here : addressable address ≡ true = ap addressable (sym one) ∙ named_nth m.watched i w named entry.1 in
+      let there : place_of (entry_of w) m.slots ≡ place address m.slots = ap (λ a. place a m.slots) one in
+      let v = access_verdict address m.slots in
       let same : entry_verdict (entry_of w) m.slots ≡ v =
-      ap (place_verdict (λ _. None)) there ∙ sym (ap (λ k. cond (k && true) (place_verdict (λ _. None) (place port device m.slots)) (Some OutOfRange)) here) in
-      let word : data_of (fed_by (entry_of w)) (place_of (entry_of w) m.slots) ≡ data_of register (place port device m.slots) = ap₂ data_of fed there in (
-        ap data_as (told ∙ ap (λ o. take_answer o m.slots) entry.1 ∙ ap₂ result_under same word) ∙ data_under v (data_of register (place port device m.slots)),
-        left ∙ took_under m i w entry.1 ∙ ap₂ (λ u o. state_under u (read_by port device register o m) m) same (sym heard),
+      ap (place_verdict (λ _. None)) there ∙ sym (ap (λ k. cond (k && true) (place_verdict (λ _. None) (place address m.slots)) (Some OutOfRange)) here) in
+      let word : data_of (fed_by (entry_of w)) (place_of (entry_of w) m.slots) ≡ data_of register (place address m.slots) = ap₂ data_of fed there in (
+        ap data_as (told ∙ ap (λ o. take_answer o m.slots) entry.1 ∙ ap₂ result_under same word) ∙ data_under v (data_of register (place address m.slots)),
+        left ∙ took_under m i w entry.1 ∙ ap₂ (λ u o. state_under u (read_by address register o m) m) same (sym heard),
       )
 
 -- ---- a write
 
-pub write_called : (port device register word : ℕ) (m : State) → m.frames < 65536 → (r : Result (Unit {0}) BusRefusal) (slots : List SlotMeaning) (frames : ℕ)
-    → r ≡ accessed port device (write_of (place port device m.slots))
-    → slots ≡ cond (addressable port device) (register_written port device register word m.slots) m.slots
+pub write_called : (address : MmdAddress) (register word : ℕ) (m : State) → m.frames < 65536 → (r : Result (Unit {0}) BusRefusal) (slots : List SlotMeaning) (frames : ℕ)
+    → r ≡ accessed address (write_of (place address m.slots))
+    → slots ≡ cond (addressable address) (register_written address register word m.slots) m.slots
     → frames ≡ frames_accessed m.frames r
-    → (done_as (as_call r) ≡ answer_of (At port device (Write register word)) m)
-    × (record { slots = slots; frames = frames; watched = m.watched } ≡ after_call (At port device (Write register word)) m)
+    → (done_as (as_call r) ≡ answer_of (At address (Write register word)) m)
+    × (record { slots = slots; frames = frames; watched = m.watched } ≡ after_call (At address (Write register word)) m)
 unfolding answer_of after_call verdict admitted reply
-write_called port device register word m fits r slots frames answered e f =
-    let told : as_call r ≡ result_under (access_verdict port device m.slots) (tt {0}) = ap as_call answered ∙ write_told port device m.slots in (
-      ap done_as told ∙ done_under (access_verdict port device m.slots),
-      access_left m fits (register_written port device register word m.slots) (tt {0}) port device
-          (absent_written port device register word m.slots) r told slots frames e f,
+write_called address register word m fits r slots frames answered e f =
+    let told : as_call r ≡ result_under (access_verdict address m.slots) (tt {0}) = ap as_call answered ∙ write_told address m.slots in (
+      ap done_as told ∙ done_under (access_verdict address m.slots),
+      access_left m fits (register_written address register word m.slots) (tt {0}) address
+          (absent_written address register word m.slots) r told slots frames e f,
     )
 
 -- ---- an event: a line, a count, a finish
 
-pub event_called : (port device : ℕ) (event : Event) (m : State) → reply (At port device (request_of event)) m ≡ Done
-    → admitted (At port device (request_of event)) m ≡ evented port device event m
-    → (r : Result (Unit {0}) CallRefusal) (after : State) → r ≡ result_under (event_verdict port device event m.slots) (tt {0})
-    → after ≡ state_under (event_verdict port device event m.slots) (evented port device event m) m
-    → (done_as r ≡ answer_of (At port device (request_of event)) m) × (after ≡ after_call (At port device (request_of event)) m)
+pub event_called : (address : MmdAddress) (event : Event) (m : State) → reply (At address (request_of event)) m ≡ Done
+    → admitted (At address (request_of event)) m ≡ evented address event m
+    → (r : Result (Unit {0}) CallRefusal) (after : State) → r ≡ result_under (event_verdict address event m.slots) (tt {0})
+    → after ≡ state_under (event_verdict address event m.slots) (evented address event m) m
+    → (done_as r ≡ answer_of (At address (request_of event)) m) × (after ≡ after_call (At address (request_of event)) m)
 unfolding answer_of after_call verdict
-event_called port device event m done admits r after told left =
-    let v = event_verdict port device event m.slots in
+event_called address event m done admits r after told left =
+    let v = event_verdict address event m.slots in
     (ap done_as told ∙ done_under v ∙ ap (answer_under v) (sym done), left ∙ ap (λ s. state_under v s m) (sym admits))
 
 -- ---- a reset
 
-module _ (port device : ℕ) (m : State) where
+module _ (address : MmdAddress) (m : State) where
   abbrev reset_call : Call
-  reset_call = At port device Reset
+  reset_call = At address Reset
 
-  pub reset_unnamed : addressable port device ≡ false → (done_as (Err OutOfRange) ≡ answer_of reset_call m) × (m ≡ after_call reset_call m)
+  pub reset_unnamed : addressable address ≡ false → (done_as (Err OutOfRange) ≡ answer_of reset_call m) × (m ≡ after_call reset_call m)
   unfolding answer_of after_call verdict
   reset_unnamed out =
-      let is : access_verdict port device m.slots ≡ Some OutOfRange =
-      ap (λ k. cond (k && true) (place_verdict (λ _. None) (place port device m.slots)) (Some OutOfRange)) out in
+      let is : access_verdict address m.slots ≡ Some OutOfRange =
+      ap (λ k. cond (k && true) (place_verdict (λ _. None) (place address m.slots)) (Some OutOfRange)) out in
       (sym (ap (λ v. answer_under v (reply reset_call m)) is), sym (ap (λ v. state_under v (admitted reset_call m) m) is))
 
-  module _ (named : addressable port device ≡ true) (s after : State) (r : Result (Unit {0}) CallRefusal)
-      (Swept_all : s ≡ swept port device (length m.watched) m)
-      (told : r ≡ result_under (access_verdict port device s.slots) (tt {0}))
-      (left : after ≡ state_under (access_verdict port device s.slots) (evented port device ResetEvent s) s) where
-    absent : (refusal : CallRefusal) → access_verdict port device m.slots ≡ Some refusal → Absent port device m.slots
+  module _ (named : addressable address ≡ true) (s after : State) (r : Result (Unit {0}) CallRefusal)
+      (Swept_all : s ≡ swept address (length m.watched) m)
+      (told : r ≡ result_under (access_verdict address s.slots) (tt {0}))
+      (left : after ≡ state_under (access_verdict address s.slots) (evented address ResetEvent s) s) where
+    absent : (refusal : CallRefusal) → access_verdict address m.slots ≡ Some refusal → Absent address m.slots
         → (done_as r ≡ answer_of reset_call m) × (after ≡ after_call reset_call m)
     unfolding answer_of after_call verdict reply
     absent refusal is nothing =
-        let same = Swept_all ∙ swept_absent port device (length m.watched) m nothing in
-        let v = access_verdict port device m.slots in (
-          ap done_as (told ∙ ap (λ (x : State). result_under (access_verdict port device x.slots) (tt {0})) same) ∙ done_under v,
-          left ∙ ap (λ (x : State). state_under (access_verdict port device x.slots) (evented port device ResetEvent x) x) same
-              ∙ ap (λ u. state_under u (evented port device ResetEvent m) m) is ∙ sym (ap (λ u. state_under u (admitted reset_call m) m) is),
+        let same = Swept_all ∙ swept_absent address (length m.watched) m nothing in
+        let v = access_verdict address m.slots in (
+          ap done_as (told ∙ ap (λ (x : State). result_under (access_verdict address x.slots) (tt {0})) same) ∙ done_under v,
+          left ∙ ap (λ (x : State). state_under (access_verdict address x.slots) (evented address ResetEvent x) x) same
+              ∙ ap (λ u. state_under u (evented address ResetEvent m) m) is ∙ sym (ap (λ u. state_under u (admitted reset_call m) m) is),
         )
 
-    there : (mmd : Meaning) → place port device m.slots ≡ found mmd → (done_as r ≡ answer_of reset_call m) × (after ≡ after_call reset_call m)
+    there : (mmd : Meaning) → place address m.slots ≡ found mmd → (done_as r ≡ answer_of reset_call m) × (after ≡ after_call reset_call m)
     unfolding answer_of after_call verdict reply admitted
     there mmd at =
-        let still = swept_found port device (length m.watched) m (mmd, at) in
-        let at_swept = ap (λ (x : State). place port device x.slots) Swept_all ∙ still.1 in
-        let before = verdict_found port device m.slots mmd named at in
-        let later = verdict_found port device s.slots still.0 named at_swept in (
+        let still = swept_found address (length m.watched) m (mmd, at) in
+        let at_swept = ap (λ (x : State). place address x.slots) Swept_all ∙ still.1 in
+        let before = verdict_found address m.slots mmd named at in
+        let later = verdict_found address s.slots still.0 named at_swept in (
           ap done_as (told ∙ ap (λ u. result_under u (tt {0})) later) ∙ sym (ap (λ u. answer_under u Done) before),
-          left ∙ ap (λ u. state_under u (evented port device ResetEvent s) s) later ∙ ap (evented port device ResetEvent) Swept_all
-              ∙ sym (ap (λ u. state_under u (evented port device ResetEvent (swept port device (length m.watched) m)) m) before),
+          left ∙ ap (λ u. state_under u (evented address ResetEvent s) s) later ∙ ap (evented address ResetEvent) Swept_all
+              ∙ sym (ap (λ u. state_under u (evented address ResetEvent (swept address (length m.watched) m)) m) before),
         )
 
     pub reset_called : (done_as r ≡ answer_of reset_call m) × (after ≡ after_call reset_call m)
-    reset_called = by (place port device m.slots) refl
+    reset_called = by (place address m.slots) refl
       where
-        verdict_at : (p : Place) → place port device m.slots ≡ p → access_verdict port device m.slots ≡ place_verdict (λ _. None) p
+        verdict_at : (p : Place) → place address m.slots ≡ p → access_verdict address m.slots ≡ place_verdict (λ _. None) p
         verdict_at p at = ap₂ (λ k p. cond (k && true) (place_verdict (λ _. None) p) (Some OutOfRange)) named at
 
-        by : (p : Place) → place port device m.slots ≡ p → (done_as r ≡ answer_of reset_call m) × (after ≡ after_call reset_call m)
-        by no_port at = absent NoPort (verdict_at no_port at) (absent_port port device m.slots at)
-        by no_device at = absent NoDevice (verdict_at no_device at) (absent_device port device m.slots at)
+        by : (p : Place) → place address m.slots ≡ p → (done_as r ≡ answer_of reset_call m) × (after ≡ after_call reset_call m)
+        by no_port at = absent NoPort (verdict_at no_port at) (absent_port address m.slots at)
+        by no_device at = absent NoDevice (verdict_at no_device at) (absent_device address m.slots at)
         by (found mmd) at = there mmd at

@@ -1,15 +1,17 @@
 -- An event that the bus took or refused, told by the rules.
-use Rattle.std.proofs.Common.{◌≡◌, ℕ, zero, suc, true, cond, ◌&&◌, List, [], ◌∷◌, is_ok, Some, None, Ok, Err, Option, Result, sym, refl, ap, ◌∙◌, ap₂, arith}
+use Rattle.std.proofs.Common.{◌≡◌, ℕ, zero, suc, true, cond, if◌then◌else◌, ◌&&◌, List, [], ◌∷◌, is_ok, Some, None, Ok, Err, Option, Result, sym, refl, ap, ◌∙◌, ap₂, arith}
+use Rattle.frame.specs.declared.address.MmdAddress.{MmdAddress}
+use Rattle.frame.specs.Addresses.{addressable}
 use Rattle.bank.specs.Deeds.{after_at, after_deed}
 use Rattle.bank.specs.Slots.{SlotMeaning}
 use Rattle.bank.specs.declared.deed.Deed.{Deed}
-use Rattle.bank.specs.declared.deed.Deed.TheVariants.{Count as CountDeed, Finish as FinishDeed}
-use Rattle.bus.specs.Answers.{after_found, event_deed, slot_at}
-use Rattle.bus.specs.Places.{Place, no_port, no_device, found, addressable, event_of, event_taken, from_mmd, mmd_at, place, place_of, worked}
+use Rattle.bank.specs.declared.deed.Deed.TheVariants.{Event as EventDeed}
+use Rattle.bus.specs.Answers.{after_found, slot_at}
+use Rattle.bus.specs.Places.{Place, no_port, no_device, found, event_of, event_taken, from_mmd, mmd_at, place, place_of, worked}
 use Rattle.bus.specs.declared.answer.BusRefusal.{BusRefusal}
 use Rattle.bus.specs.declared.answer.BusRefusal.TheVariants.{NoPort, NoDevice, Mmd}
-use Rattle.bus.specs.declared.answer.Event.{Event}
-use Rattle.bus.specs.declared.answer.Event.TheVariants.{Line, Count, Finish, Reset}
+use Rattle.mmd.specs.declared.event.Event.{Event}
+use Rattle.mmd.specs.declared.event.Event.TheVariants.{Line, Count, Finish, Reset}
 use Rattle.bus.proofs.Places.{absent_unchanged}
 use Rattle.mmd.specs.Events.{after_count, after_finish}
 use Rattle.mmd.specs.Meaning.{Meaning}
@@ -29,39 +31,39 @@ same_at n deed mmd same [] at = refl
 same_at zero deed mmd same (s ∷ ss) at = let e : s.mmd ≡ mmd = cc in ap (λ (x : SlotMeaning). x ∷ ss) (same s e)
 same_at (suc n) deed mmd same (s ∷ ss) at = ap (λ (xs : List SlotMeaning). s ∷ xs) (same_at n deed mmd same ss at)
 
-worked_same : (port device : ℕ) (deed : Deed) (mmd : Meaning) → ((s : SlotMeaning) → s.mmd ≡ mmd → after_deed deed s ≡ s)
-    → (slots : List SlotMeaning) → place port device slots ≡ found mmd → worked port device deed slots ≡ slots
+worked_same : (address : MmdAddress) (deed : Deed) (mmd : Meaning) → ((s : SlotMeaning) → s.mmd ≡ mmd → after_deed deed s ≡ s)
+    → (slots : List SlotMeaning) → place address slots ≡ found mmd → worked address deed slots ≡ slots
 unfolding place worked
-worked_same port device deed mmd same slots at = by (slot_at port device slots) at
+worked_same address deed mmd same slots at = by (slot_at address slots) at
   where
-    by : (o : Option ℕ) → place_of port slots o ≡ found mmd → after_found deed slots o ≡ slots
+    by : (o : Option ℕ) → place_of address.port slots o ≡ found mmd → after_found deed slots o ≡ slots
     by None there = refl
     by (Some n) there = same_at n deed mmd same slots there
 
-abbrev stays : ℕ → ℕ → Event → List SlotMeaning → Type 0
-stays port device event slots = event_taken port device event slots ≡ slots
+abbrev stays : MmdAddress → Event → List SlotMeaning → Type 0
+stays address event slots = event_taken address event slots ≡ slots
 
-count_refused : (port device counter amount : ℕ) (mmd : Meaning) (slots : List SlotMeaning) (e : MmdRefusal) → place port device slots ≡ found mmd
-    → count_answer mmd counter ≡ Err e → stays port device (Count counter amount) slots
+count_refused : (address : MmdAddress) (counter amount : ℕ) (mmd : Meaning) (slots : List SlotMeaning) (e : MmdRefusal) → place address slots ≡ found mmd
+    → count_answer mmd counter ≡ Err e → stays address (Count counter amount) slots
 unfolding event_taken
-count_refused port device counter amount mmd slots e at refused =
-    worked_same port device (CountDeed counter amount) mmd
-    (λ s is. ap (λ ok. record { port = s.port; device = s.device; address = s.address; mmd = cond ok (after_count s.mmd counter amount) s.mmd })
+count_refused address counter amount mmd slots e at refused =
+    worked_same address (EventDeed (Count counter amount)) mmd
+    (λ s is. ap (λ ok. record { address = s.address; register = s.register; mmd = if ok then after_count s.mmd counter amount else s.mmd })
     (ap (λ k. is_ok (count_answer k counter)) is ∙ ap is_ok refused))
     slots at
 
-finish_refused : (port device register b : ℕ) (mmd : Meaning) (slots : List SlotMeaning) (e : MmdRefusal) → place port device slots ≡ found mmd
-    → finish_answer mmd register b ≡ Err e → stays port device (Finish register b) slots
+finish_refused : (address : MmdAddress) (register b : ℕ) (mmd : Meaning) (slots : List SlotMeaning) (e : MmdRefusal) → place address slots ≡ found mmd
+    → finish_answer mmd register b ≡ Err e → stays address (Finish register b) slots
 unfolding event_taken
-finish_refused port device register b mmd slots e at refused =
-    worked_same port device (FinishDeed register b) mmd
-    (λ s is. ap (λ ok. record { port = s.port; device = s.device; address = s.address; mmd = cond ok (after_finish s.mmd register b) s.mmd })
+finish_refused address register b mmd slots e at refused =
+    worked_same address (EventDeed (Finish register b)) mmd
+    (λ s is. ap (λ ok. record { address = s.address; register = s.register; mmd = if ok then after_finish s.mmd register b else s.mmd })
     (ap (λ k. is_ok (finish_answer k register b)) is ∙ ap is_ok refused))
     slots at
 
-absent_event : (port device : ℕ) (event : Event) (slots : List SlotMeaning) → Absent port device slots → stays port device event slots
+absent_event : (address : MmdAddress) (event : Event) (slots : List SlotMeaning) → Absent address slots → stays address event slots
 unfolding event_taken
-absent_event port device event slots absent = absent_unchanged port device (event_deed event) slots absent
+absent_event address event slots absent = absent_unchanged address (EventDeed event) slots absent
 
 -- ---- a refused event: what the bus says is what the rules say
 
@@ -70,28 +72,28 @@ mmd_refused : (answer : Result (Unit {0}) MmdRefusal) (e : BusRefusal) → Err e
 mmd_refused (Ok u) e told = let z : ◌≡◌ {A = ℕ} 0 1 = cc in absurd (omega arith)
 mmd_refused (Err x) e told = let same : e ≡ Mmd x = cc in (x, refl, ap (λ r. Some (refusal_from r)) (sym same))
 
-refused_at : (port device : ℕ) (event : Event) (slots : List SlotMeaning) (e : BusRefusal) (p : Place) → place port device slots ≡ p
-    → Err e ≡ event_of event p → (place_verdict (mmd_verdict (request_of event)) p ≡ Some (refusal_from e)) × stays port device event slots
-refused_at port device event slots e no_port at told =
-    let same : e ≡ NoPort = cc in (ap (λ r. Some (refusal_from r)) (sym same), absent_event port device event slots (absent_port port device slots at))
-refused_at port device event slots e no_device at told =
-    let same : e ≡ NoDevice = cc in (ap (λ r. Some (refusal_from r)) (sym same), absent_event port device event slots (absent_device port device slots at))
-refused_at port device (Line number up) slots e (found mmd) at told = let z : ◌≡◌ {A = ℕ} 0 1 = cc in absurd (omega arith)
-refused_at port device (Count counter amount) slots e (found mmd) at told =
-    let by = mmd_refused (count_answer mmd counter) e told in (by.2, count_refused port device counter amount mmd slots by.0 at by.1)
-refused_at port device (Finish register b) slots e (found mmd) at told =
-    let by = mmd_refused (finish_answer mmd register b) e told in (by.2, finish_refused port device register b mmd slots by.0 at by.1)
-refused_at port device Reset slots e (found mmd) at told = let z : ◌≡◌ {A = ℕ} 0 1 = cc in absurd (omega arith)
+refused_at : (address : MmdAddress) (event : Event) (slots : List SlotMeaning) (e : BusRefusal) (p : Place) → place address slots ≡ p
+    → Err e ≡ event_of event p → (place_verdict (mmd_verdict (request_of event)) p ≡ Some (refusal_from e)) × stays address event slots
+refused_at address event slots e no_port at told =
+    let same : e ≡ NoPort = cc in (ap (λ r. Some (refusal_from r)) (sym same), absent_event address event slots (absent_port address slots at))
+refused_at address event slots e no_device at told =
+    let same : e ≡ NoDevice = cc in (ap (λ r. Some (refusal_from r)) (sym same), absent_event address event slots (absent_device address slots at))
+refused_at address (Line number up) slots e (found mmd) at told = let z : ◌≡◌ {A = ℕ} 0 1 = cc in absurd (omega arith)
+refused_at address (Count counter amount) slots e (found mmd) at told =
+    let by = mmd_refused (count_answer mmd counter) e told in (by.2, count_refused address counter amount mmd slots by.0 at by.1)
+refused_at address (Finish register b) slots e (found mmd) at told =
+    let by = mmd_refused (finish_answer mmd register b) e told in (by.2, finish_refused address register b mmd slots by.0 at by.1)
+refused_at address Reset slots e (found mmd) at told = let z : ◌≡◌ {A = ℕ} 0 1 = cc in absurd (omega arith)
 
-pub event_refused : (port device : ℕ) (event : Event) (m : State) (slots : List SlotMeaning) (frames : ℕ) (e : BusRefusal) → (addressable port device && in_range (request_of event)) ≡ true
-    → Err e ≡ event_of event (place port device m.slots) → slots ≡ event_taken port device event m.slots → frames ≡ m.frames
-    → (Err (refusal_from e) ≡ result_under (event_verdict port device event m.slots) (tt {0}))
-    × (record { slots = slots; frames = frames; watched = m.watched } ≡ state_under (event_verdict port device event m.slots) (evented port device event m) m)
-event_refused port device event m slots frames e named told taken same =
-    let all = refused_at port device event m.slots e (place port device m.slots) refl told in
-    let verdict : event_verdict port device event m.slots ≡ Some (refusal_from e) =
-    ap (λ k. cond k (place_verdict (mmd_verdict (request_of event)) (place port device m.slots)) (Some OutOfRange)) named ∙ all.0 in (
+pub event_refused : (address : MmdAddress) (event : Event) (m : State) (slots : List SlotMeaning) (frames : ℕ) (e : BusRefusal) → (addressable address && in_range (request_of event)) ≡ true
+    → Err e ≡ event_of event (place address m.slots) → slots ≡ event_taken address event m.slots → frames ≡ m.frames
+    → (Err (refusal_from e) ≡ result_under (event_verdict address event m.slots) (tt {0}))
+    × (record { slots = slots; frames = frames; watched = m.watched } ≡ state_under (event_verdict address event m.slots) (evented address event m) m)
+event_refused address event m slots frames e named told taken same =
+    let all = refused_at address event m.slots e (place address m.slots) refl told in
+    let verdict : event_verdict address event m.slots ≡ Some (refusal_from e) =
+    ap (λ k. cond k (place_verdict (mmd_verdict (request_of event)) (place address m.slots)) (Some OutOfRange)) named ∙ all.0 in (
       sym (ap (λ v. result_under v (tt {0})) verdict),
       ap₂ (λ (ss : List SlotMeaning) (n : ℕ). record { slots = ss; frames = n; watched = m.watched }) (taken ∙ all.1) same
-          ∙ sym (ap (λ v. state_under v (evented port device event m) m) verdict),
+          ∙ sym (ap (λ v. state_under v (evented address event m) m) verdict),
     )

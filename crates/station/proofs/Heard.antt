@@ -1,8 +1,10 @@
 -- The search for the entry that a register feeds, from one entry on.
-use Rattle.std.proofs.Common.{◌≡◌, ℕ, ◌+◌, ◌<◌, ◌≤◌, Bool, true, false, cond, List, [], ◌∷◌, length, get_or, drop, Some, None, Option, sym, refl, ap, ◌∙◌, subst, arith}
+use Rattle.std.proofs.Common.{◌≡◌, ℕ, ◌+◌, ◌<◌, ◌≤◌, Bool, true, false, if◌then◌else◌, List, ◌∷◌, length, get_or, drop, Some, None, Option, sym, refl, ap, ◌∙◌, subst, arith}
 use Rattle.std.proofs.lemmas.List.{at_drop_more, at_drop_all}
 use Rattle.std.specs.List.{slice_get}
+use Rattle.frame.specs.declared.address.MmdAddress.{MmdAddress}
 use Rattle.bank.specs.Slots.{next_place}
+use Rattle.promise.proofs.Steps.{Heard, hearing_right}
 use Rattle.promise.specs.Rules.{hearing, hears}
 use Rattle.watch_list.specs.declared.watch.Watched.{Watched}
 
@@ -21,27 +23,27 @@ further_next i (Some n) = ap Some (omega arith)
 further_here : (i : ℕ) → further i (Some 0) ≡ Some i
 further_here i = ap Some (omega arith)
 
-module _ (port device register : ℕ) (ws : List Watched) where
+module _ (address : MmdAddress) (register : ℕ) (ws : List Watched) where
   abbrev heard : List Watched → Option ℕ
-  heard l = hearing port device register l
+  heard l = hearing address register l
 
   pub hearing_starts : heard ws ≡ further 0 (heard (drop 0 ws))
   hearing_starts = further_zero (heard ws)
 
-  hearing_cons : (w : Watched) (rest : List Watched) → heard (w ∷ rest) ≡ cond (hears port device register w) (Some 0) (next_place (heard rest))
+  hearing_cons : (w : Watched) (rest : List Watched) → heard (w ∷ rest) ≡ if hears address register w then Some 0 else next_place (heard rest)
   unfolding hearing
   hearing_cons w rest = refl
 
-  hearing_at : (i : ℕ) (w : Watched) (t : Bool) → i < length ws → t ≡ hears port device register (get_or ws i w)
-      → further i (heard (drop i ws)) ≡ further i (cond t (Some 0) (next_place (heard (drop (i + 1) ws))))
+  hearing_at : (i : ℕ) (w : Watched) (t : Bool) → i < length ws → t ≡ hears address register (get_or ws i w)
+      → further i (heard (drop i ws)) ≡ further i (if t then Some 0 else next_place (heard (drop (i + 1) ws)))
   hearing_at i w t within tells =
       ap (further i) (at_drop_more heard ws i w within ∙ hearing_cons (get_or ws i w) (drop (i + 1) ws)
-      ∙ ap (λ k. cond k (Some 0) (next_place (heard (drop (i + 1) ws)))) (sym tells))
+      ∙ ap (λ k. if k then Some 0 else next_place (heard (drop (i + 1) ws))) (sym tells))
 
-  pub hearing_here : (i : ℕ) (w : Watched) → i < length ws → true ≡ hears port device register (get_or ws i w) → further i (heard (drop i ws)) ≡ Some i
+  pub hearing_here : (i : ℕ) (w : Watched) → i < length ws → true ≡ hears address register (get_or ws i w) → further i (heard (drop i ws)) ≡ Some i
   hearing_here i w within tells = hearing_at i w true within tells ∙ further_here i
 
-  pub hearing_on : (i : ℕ) (w : Watched) → i < length ws → false ≡ hears port device register (get_or ws i w)
+  pub hearing_on : (i : ℕ) (w : Watched) → i < length ws → false ≡ hears address register (get_or ws i w)
       → further i (heard (drop i ws)) ≡ further (i + 1) (heard (drop (i + 1) ws))
   hearing_on i w within tells = hearing_at i w false within tells ∙ further_next i (heard (drop (i + 1) ws))
 
@@ -51,24 +53,6 @@ module _ (port device register : ℕ) (ws : List Watched) where
 
 -- ---- the entry that was found
 
-abbrev Heard : ℕ → ℕ → ℕ → List Watched → Option ℕ → Type 0
-Heard port device register ws None = Unit {0}
-Heard port device register ws (Some i) = (w : Watched) × (slice_get ws i ≡ Some w) × (hears port device register w ≡ true)
-
-heard_next : (port device register : ℕ) (w : Watched) (ws : List Watched) (o : Option ℕ) → Heard port device register ws o → Heard port device register (w ∷ ws) (next_place o)
-heard_next port device register w ws None there = tt
-heard_next port device register w ws (Some i) there = there
-
-heard_right : (port device register : ℕ) (ws : List Watched) → Heard port device register ws (hearing port device register ws)
-unfolding hearing
-heard_right port device register [] = tt
-heard_right port device register (w ∷ ws) = by (heard_right port device register ws) (hears port device register w) refl
-  where
-    by : Heard port device register ws (hearing port device register ws) → (t : Bool) → hears port device register w ≡ t
-        → Heard port device register (w ∷ ws) (cond t (Some 0) (next_place (hearing port device register ws)))
-    by behind true here = (w, refl, here)
-    by behind false here = heard_next port device register w ws (hearing port device register ws) behind
-
-pub heard_entry : (port device register i : ℕ) (ws : List Watched) → hearing port device register ws ≡ Some i
-    → (w : Watched) × (slice_get ws i ≡ Some w) × (hears port device register w ≡ true)
-heard_entry port device register i ws is = subst (Heard port device register ws) is (heard_right port device register ws)
+pub heard_entry : (address : MmdAddress) (register i : ℕ) (ws : List Watched) → hearing address register ws ≡ Some i
+    → (w : Watched) × (slice_get ws i ≡ Some w) × (hears address register w ≡ true)
+heard_entry address register i ws is = subst (Heard address register ws) is (hearing_right address register ws)

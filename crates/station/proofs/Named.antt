@@ -1,6 +1,7 @@
 -- The entries of a station stay such that a frame can name them.
-use Rattle.std.proofs.Common.{◌≡◌, ℕ, zero, suc, true, leb, List, [], ◌∷◌, map, set, Some, Ok, refl, ap, ◌∙◌, arith}
-use Rattle.std.proofs.lemmas.Bool.{and_from, and_parts, le-leb}
+use Rattle.std.proofs.Common.{◌≡◌, ℕ, zero, suc, true, List, [], ◌∷◌, map, set, Some, Ok, refl, ap, ◌∙◌, arith}
+use Rattle.std.proofs.lemmas.Bool.{and_from, and_parts}
+use Rattle.std.proofs.lemmas.Bool.Decides.{nat_tests}
 use Rattle.std.specs.List.{slice_get}
 use Rattle.watch_list.specs.Checks.{check_of}
 use Rattle.watch_list.specs.Lists.{WellFormed}
@@ -28,8 +29,8 @@ named_set (v ∷ ws) (suc i) w all here =
 -- ---- a list that passes its check
 
 formed_named : (e : Entry) → WellFormed e → is_named (entry_of (new_watched e)) ≡ true
-formed_named (Latch e) formed = and_from (leb e.port 31) (leb e.device 31) (le-leb e.port 31 formed.0) (le-leb e.device 31 formed.1)
-formed_named (Count e) formed = and_from (leb e.port 31) (leb e.device 31) (le-leb e.port 31 formed.0) (le-leb e.device 31 formed.1)
+formed_named (Latch e) formed = grind (arith, nat_tests)
+formed_named (Count e) formed = grind (arith, nat_tests)
 
 all_formed : (es : List Entry) → ((i : ℕ) (e : Entry) → slice_get es i ≡ Some e → WellFormed e) → all_named (map new_watched es) ≡ true
 unfolding all_named

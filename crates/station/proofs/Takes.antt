@@ -2,8 +2,10 @@
 use Rattle.std.proofs.Common.{◌≡◌, ℕ, Bool, true, false, cond, ◌&&◌, List, length, get_or, set, Some, None, Ok, Err, Option, Result, sym, refl, ap, ◌∙◌, subst, ap₂, arith}
 use Rattle.std.proofs.lemmas.Option.{slice_get_read}
 use Rattle.std.specs.List.{slice_get}
+use Rattle.frame.specs.declared.address.MmdAddress.{MmdAddress}
+use Rattle.frame.specs.Addresses.{addressable}
 use Rattle.bank.specs.Slots.{SlotMeaning}
-use Rattle.bus.specs.Places.{Place, no_port, no_device, found, addressable, on_found, place}
+use Rattle.bus.specs.Places.{Place, no_port, no_device, found, on_found, place}
 use Rattle.bus.proofs.Places.{place_register_read}
 use Rattle.mmd.specs.Events.{after_read}
 use Rattle.mmd.specs.Meaning.{Meaning, read_word}
@@ -23,9 +25,9 @@ use Rattle.station.specs.Takes.{entry_verdict, registers_read, take_answer, word
 
 -- ---- the verdict at an address, by what is found there
 
-pub verdict_found : (port device : ℕ) (slots : List SlotMeaning) (mmd : Meaning) → addressable port device ≡ true → place port device slots ≡ found mmd
-    → access_verdict port device slots ≡ None
-verdict_found port device slots mmd named is =
+pub verdict_found : (address : MmdAddress) (slots : List SlotMeaning) (mmd : Meaning) → addressable address ≡ true → place address slots ≡ found mmd
+    → access_verdict address slots ≡ None
+verdict_found address slots mmd named is =
     ap₂ (λ k p. cond (k && true) (place_verdict (λ _. None) p) (Some OutOfRange)) named is
 
 -- what is read was found
@@ -40,31 +42,30 @@ granted_read register false p v told = let z : ◌≡◌ {A = ℕ} 0 1 = cc in a
 -- ---- a count entry: after the high half is read, the low half is too
 
 module _ (entry : Entry) (e : CountEntry) (is : entry ≡ Count e) (named : is_named entry ≡ true) (m m₁ m₂ : State) (high : ℕ)
-    (first : Ok high ≡ result_under (access_verdict e.port e.device m.slots) (data_of e.high (place e.port e.device m.slots)))
-    (after : m₁ ≡ state_under (access_verdict e.port e.device m.slots) (read_by e.port e.device e.high None m) m)
-    (left : m₂ ≡ state_under (access_verdict e.port e.device m₁.slots) (read_by e.port e.device e.low None m₁) m₁) where
+    (first : Ok high ≡ result_under (access_verdict e.address m.slots) (data_of e.high (place e.address m.slots)))
+    (after : m₁ ≡ state_under (access_verdict e.address m.slots) (read_by e.address e.high None m) m)
+    (left : m₂ ≡ state_under (access_verdict e.address m₁.slots) (read_by e.address e.low None m₁) m₁) where
   abbrev answered : Result ℕ CallRefusal → Type 0
-  answered second = second ≡ result_under (access_verdict e.port e.device m₁.slots) (data_of e.low (place e.port e.device m₁.slots))
+  answered second = second ≡ result_under (access_verdict e.address m₁.slots) (data_of e.low (place e.address m₁.slots))
 
-  low_found : (mmd : Meaning) × (place e.port e.device m.slots ≡ found mmd) × (high ≡ read_word mmd e.high)
-      × (m₁ ≡ read_by e.port e.device e.high None m)
-      × (place e.port e.device m₁.slots ≡ found (after_read mmd e.high)) × (access_verdict e.port e.device m₁.slots ≡ None)
+  low_found : (mmd : Meaning) × (place e.address m.slots ≡ found mmd) × (high ≡ read_word mmd e.high)
+      × (m₁ ≡ read_by e.address e.high None m)
+      × (place e.address m₁.slots ≡ found (after_read mmd e.high)) × (access_verdict e.address m₁.slots ≡ None)
   low_found =
-      let port = e.port in
-      let device = e.device in
-      let here : addressable port device ≡ true = sym (ap is_named is) ∙ named in
-      let was = granted_read e.high (addressable port device) (place port device m.slots) high first in
-      let once : m₁ ≡ read_by port device e.high None m =
-      after ∙ ap (λ v. state_under v (read_by port device e.high None m) m) (verdict_found port device m.slots was.0 here was.1) in
-      let again : place port device m₁.slots ≡ found (after_read was.0 e.high) =
-      ap (λ (s : State). place port device s.slots) once ∙ place_register_read port device e.high m.slots ∙ ap (on_found (λ k. after_read k e.high)) was.1 in
-      (was.0, was.1, was.2, once, again, verdict_found port device m₁.slots (after_read was.0 e.high) here again)
+      let address = e.address in
+      let here : addressable address ≡ true = sym (ap is_named is) ∙ named in
+      let was = granted_read e.high (addressable address) (place address m.slots) high first in
+      let once : m₁ ≡ read_by address e.high None m =
+      after ∙ ap (λ v. state_under v (read_by address e.high None m) m) (verdict_found address m.slots was.0 here was.1) in
+      let again : place address m₁.slots ≡ found (after_read was.0 e.high) =
+      ap (λ (s : State). place address s.slots) once ∙ place_register_read address e.high m.slots ∙ ap (on_found (λ k. after_read k e.high)) was.1 in
+      (was.0, was.1, was.2, once, again, verdict_found address m₁.slots (after_read was.0 e.high) here again)
 
   -- the low half is not refused
   pub low_granted : (refusal : CallRefusal) → answered (Err refusal) → ⊥
   low_granted refusal told =
       let there = low_found in
-      let both : Err refusal ≡ Ok (data_of e.low (place e.port e.device m₁.slots)) = told ∙ ap (λ v. result_under v (data_of e.low (place e.port e.device m₁.slots))) there.5 in
+      let both : Err refusal ≡ Ok (data_of e.low (place e.address m₁.slots)) = told ∙ ap (λ v. result_under v (data_of e.low (place e.address m₁.slots))) there.5 in
       let z : ◌≡◌ {A = ℕ} 0 1 = cc in omega arith
 
   pub both_halves : (low : ℕ) → answered (Ok low)
@@ -76,7 +77,7 @@ module _ (entry : Entry) (e : CountEntry) (is : entry ≡ Count e) (named : is_n
       let read : Ok low ≡ Ok (read_word (after_read mmd e.high) e.low) = told ∙ ap₂ (λ v p. result_under v (data_of e.low p)) there.5 there.4 in
       let frames : more_frames 2 (more_frames 2 m.frames) ≡ more_frames 4 m.frames = omega arith in
       let twice : m₂ ≡ registers_read (Count e) m =
-      left ∙ ap (λ v. state_under v (read_by e.port e.device e.low None m₁) m₁) there.5 ∙ ap (read_by e.port e.device e.low None) there.3
+      left ∙ ap (λ v. state_under v (read_by e.address e.low None m₁) m₁) there.5 ∙ ap (read_by e.address e.low None) there.3
       ∙ ap (λ (n : ℕ). record { slots = (registers_read (Count e) m).slots; frames = n; watched = m.watched }) frames in
       let words : Ok (high, low) ≡ Ok (words_at (Count e) (found mmd)) = let h = there.2 in cc in
       subst (λ x. (Ok (high, low) ≡ result_under (entry_verdict x m.slots) (words_at x (place_of x m.slots))) × (m₂ ≡ state_under (entry_verdict x m.slots) (registers_read x m) m)) (sym is) (

@@ -1,13 +1,13 @@
--- What every station keeps: a frame can name the port and device of each of its entries.
+-- What every station keeps: a frame can name the address of each of its entries.
 use Rattle.std.specs.Prelude.{Bool, true, ◌&&◌, List, [], ◌∷◌}
-use Rattle.bus.specs.Places.{addressable}
-use Rattle.watch_list.specs.Entries.{port_of, device_of}
+use Rattle.frame.specs.Addresses.{addressable}
+use Rattle.watch_list.specs.Entries.{address_of}
 use Rattle.watch_list.specs.Watches.{entry_of}
 use Rattle.watch_list.specs.declared.entry.Entry.{Entry}
 use Rattle.watch_list.specs.declared.watch.Watched.{Watched}
 
 abbrev pub is_named : Entry → Bool
-is_named e = addressable (port_of e) (device_of e)
+is_named e = addressable (address_of e)
 
 unfoldable pub all_named : List Watched → Bool
 all_named [] = true

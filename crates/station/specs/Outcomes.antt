@@ -1,8 +1,9 @@
 -- What a call's result says: its value where the rules admit it, or the refusal.
 use Rattle.std.specs.Prelude.{ℕ, List, Some, None, Ok, Err, Option, Result}
+use Rattle.frame.specs.declared.address.MmdAddress.{MmdAddress}
 use Rattle.bank.specs.Slots.{SlotMeaning}
-use Rattle.bus.specs.declared.answer.Event.{Event}
-use Rattle.bus.specs.declared.answer.Event.TheVariants.{Line as LineEvent, Count as CountEvent, Finish as FinishEvent, Reset as ResetEvent}
+use Rattle.mmd.specs.declared.event.Event.{Event}
+use Rattle.mmd.specs.declared.event.Event.TheVariants.{Line as LineEvent, Count as CountEvent, Finish as FinishEvent, Reset as ResetEvent}
 use Rattle.call.specs.declared.answer.Answer.{Answer}
 use Rattle.call.specs.declared.answer.Answer.TheVariants.{Data, Told, Done, Refused}
 use Rattle.call.specs.declared.answer.CallRefusal.{CallRefusal}
@@ -31,8 +32,8 @@ result_under None value = Ok value
 result_under (Some refusal) value = Err refusal
 
 -- what every request at an address is refused for: 5, 3 or 4
-abbrev pub access_verdict : ℕ → ℕ → List SlotMeaning → Option CallRefusal
-access_verdict port device slots = request_verdict port device Reset slots
+abbrev pub access_verdict : MmdAddress → List SlotMeaning → Option CallRefusal
+access_verdict address slots = request_verdict address Reset slots
 
 -- an event as a request, and what it is refused for: 5, 3 or 4, then 6 or 7
 abbrev pub request_of : Event → Request
@@ -41,5 +42,5 @@ request_of (CountEvent counter amount) = Count counter amount
 request_of (FinishEvent register b) = Finish register b
 request_of ResetEvent = Reset
 
-abbrev pub event_verdict : ℕ → ℕ → Event → List SlotMeaning → Option CallRefusal
-event_verdict port device event slots = request_verdict port device (request_of event) slots
+abbrev pub event_verdict : MmdAddress → Event → List SlotMeaning → Option CallRefusal
+event_verdict address event slots = request_verdict address (request_of event) slots

@@ -6,12 +6,12 @@ ghost use Rattle.promise.specs.Rules.{after_call, answer_of};
 ghost use Rattle.station.specs.Outcomes.{data_as, done_as, told_as};
 ghost use Rattle.station.specs.Stations.{state_of};
 
-use crate::event::addressable;
 use crate::hearing::hearing;
 use crate::station::Station;
 use bank::bank::Bank;
-use bus::answer::Event;
 use call::answer::CallRefusal;
+use frame::address::MmdAddress;
+use mmd::event::Event;
 
 const LAST_WATCHER: u8 = 7;
 
@@ -37,76 +37,68 @@ impl<B: Bank> Station<B> {
     }
 
     // Reads a register; the entry that it feeds takes the reading in.
-    pub fn plain_read(&mut self, port: u8, device: u8, register: u16) -> Result<u16, CallRefusal>
-        ensures answer { data_as result ≡ answer_of (At port device (Read register)) (state_of B.Bank.slots self.old) }
-        ensures after { state_of B.Bank.slots self.new ≡ after_call (At port device (Read register)) (state_of B.Bank.slots self.old) }
+    pub fn plain_read(&mut self, address: MmdAddress, register: u16) -> Result<u16, CallRefusal>
+        ensures answer { data_as result ≡ answer_of (At address (Read register)) (state_of B.Bank.slots self.old) }
+        ensures after { state_of B.Bank.slots self.new ≡ after_call (At address (Read register)) (state_of B.Bank.slots self.old) }
     {
-        match hearing(self.watched.as_slice(), port, device, register) {
+        match hearing(self.watched.as_slice(), address, register) {
             Some(index) => self.take(index),
-            None => self.read_register(port, device, register),
+            None => self.read_register(address, register),
         }
     }
 
     // Writes a register, by an address and a write frame.
     pub fn write(
         &mut self,
-        port: u8,
-        device: u8,
+        address: MmdAddress,
         register: u16,
         word: u16,
     ) -> Result<(), CallRefusal>
-        ensures answer { done_as result ≡ answer_of (At port device (Write register word)) (state_of B.Bank.slots self.old) }
-        ensures after { state_of B.Bank.slots self.new ≡ after_call (At port device (Write register word)) (state_of B.Bank.slots self.old) }
+        ensures answer { done_as result ≡ answer_of (At address (Write register word)) (state_of B.Bank.slots self.old) }
+        ensures after { state_of B.Bank.slots self.new ≡ after_call (At address (Write register word)) (state_of B.Bank.slots self.old) }
     {
-        self.bus.write_register(port, device, register, word)?;
+        self.bus.write_register(address, register, word)?;
         Ok(())
     }
 
     // A line of the MMD goes up or down.
-    pub fn line(&mut self, port: u8, device: u8, number: u8, up: bool) -> Result<(), CallRefusal>
-        ensures answer { done_as result ≡ answer_of (At port device (Line number up)) (state_of B.Bank.slots self.old) }
-        ensures after { state_of B.Bank.slots self.new ≡ after_call (At port device (Line number up)) (state_of B.Bank.slots self.old) }
+    pub fn line(&mut self, address: MmdAddress, number: u8, up: bool) -> Result<(), CallRefusal>
+        ensures answer { done_as result ≡ answer_of (At address (Line number up)) (state_of B.Bank.slots self.old) }
+        ensures after { state_of B.Bank.slots self.new ≡ after_call (At address (Line number up)) (state_of B.Bank.slots self.old) }
     {
-        self.event(port, device, Event::Line { number, up })
+        self.event(address, Event::Line { number, up })
     }
 
     // A counter of the MMD counts an amount.
     pub fn count(
         &mut self,
-        port: u8,
-        device: u8,
+        address: MmdAddress,
         counter: u8,
         amount: u16,
     ) -> Result<(), CallRefusal>
-        ensures answer { done_as result ≡ answer_of (At port device (Count counter amount)) (state_of B.Bank.slots self.old) }
-        ensures after { state_of B.Bank.slots self.new ≡ after_call (At port device (Count counter amount)) (state_of B.Bank.slots self.old) }
+        ensures answer { done_as result ≡ answer_of (At address (Count counter amount)) (state_of B.Bank.slots self.old) }
+        ensures after { state_of B.Bank.slots self.new ≡ after_call (At address (Count counter amount)) (state_of B.Bank.slots self.old) }
     {
-        self.event(port, device, Event::Count { counter, amount })
+        self.event(address, Event::Count { counter, amount })
     }
 
     // What a self-clearing bit had started has ended.
-    pub fn finish(
-        &mut self,
-        port: u8,
-        device: u8,
-        register: u16,
-        bit: u8,
-    ) -> Result<(), CallRefusal>
-        ensures answer { done_as result ≡ answer_of (At port device (Finish register bit)) (state_of B.Bank.slots self.old) }
-        ensures after { state_of B.Bank.slots self.new ≡ after_call (At port device (Finish register bit)) (state_of B.Bank.slots self.old) }
+    pub fn finish(&mut self, address: MmdAddress, register: u16, bit: u8) -> Result<(), CallRefusal>
+        ensures answer { done_as result ≡ answer_of (At address (Finish register bit)) (state_of B.Bank.slots self.old) }
+        ensures after { state_of B.Bank.slots self.new ≡ after_call (At address (Finish register bit)) (state_of B.Bank.slots self.old) }
     {
-        self.event(port, device, Event::Finish { register, bit })
+        self.event(address, Event::Finish { register, bit })
     }
 
     // Reads all entries of the MMD in list order, and then resets it.
-    pub fn reset(&mut self, port: u8, device: u8) -> Result<(), CallRefusal>
-        ensures answer { done_as result ≡ answer_of (At port device Reset) (state_of B.Bank.slots self.old) }
-        ensures after { state_of B.Bank.slots self.new ≡ after_call (At port device Reset) (state_of B.Bank.slots self.old) }
+    pub fn reset(&mut self, address: MmdAddress) -> Result<(), CallRefusal>
+        ensures answer { done_as result ≡ answer_of (At address Reset) (state_of B.Bank.slots self.old) }
+        ensures after { state_of B.Bank.slots self.new ≡ after_call (At address Reset) (state_of B.Bank.slots self.old) }
     {
-        if !addressable(port, device) {
+        if !address.is_addressable() {
             return Err(CallRefusal::OutOfRange);
         }
-        self.sweep(port, device);
-        self.event(port, device, Event::Reset)
+        self.sweep(address);
+        self.event(address, Event::Reset)
     }
 }

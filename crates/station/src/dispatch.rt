@@ -9,6 +9,7 @@ use crate::station::Station;
 use bank::bank::Bank;
 use call::answer::{Answer, CallRefusal};
 use call::call::{Call, Request};
+use frame::address::MmdAddress;
 
 fn told_as(res: Result<u32, CallRefusal>) -> Answer
     ensures { result ≡ told_as res }
@@ -45,27 +46,21 @@ impl<B: Bank> Station<B> {
     {
         match call {
             Call::WatchRead { watcher, entry } => told_as(self.watch_read(watcher, entry)),
-            Call::At {
-                port,
-                device,
-                request,
-            } => self.request(port, device, request),
+            Call::At { address, request } => self.request(address, request),
         }
     }
 
-    fn request(&mut self, port: u8, device: u8, request: Request) -> Answer
-        ensures answer { result ≡ answer_of (At port device request) (state_of B.Bank.slots self.old) }
-        ensures after { state_of B.Bank.slots self.new ≡ after_call (At port device request) (state_of B.Bank.slots self.old) }
+    fn request(&mut self, address: MmdAddress, request: Request) -> Answer
+        ensures answer { result ≡ answer_of (At address request) (state_of B.Bank.slots self.old) }
+        ensures after { state_of B.Bank.slots self.new ≡ after_call (At address request) (state_of B.Bank.slots self.old) }
     {
         match request {
-            Request::Read { register } => data_as(self.plain_read(port, device, register)),
-            Request::Write { register, word } => done_as(self.write(port, device, register, word)),
-            Request::Line { number, up } => done_as(self.line(port, device, number, up)),
-            Request::Count { counter, amount } => {
-                done_as(self.count(port, device, counter, amount))
-            }
-            Request::Finish { register, bit } => done_as(self.finish(port, device, register, bit)),
-            Request::Reset => done_as(self.reset(port, device)),
+            Request::Read { register } => data_as(self.plain_read(address, register)),
+            Request::Write { register, word } => done_as(self.write(address, register, word)),
+            Request::Line { number, up } => done_as(self.line(address, number, up)),
+            Request::Count { counter, amount } => { done_as(self.count(address, counter, amount)) }
+            Request::Finish { register, bit } => done_as(self.finish(address, register, bit)),
+            Request::Reset => done_as(self.reset(address)),
         }
     }
 }

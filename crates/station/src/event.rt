@@ -1,29 +1,21 @@
 // How an event reaches an MMD.
 ghost use Rattle.std.specs.Prelude.{◌≡◌, ◌&&◌};
-ghost use Rattle.bus.specs.Places.{addressable};
+ghost use Rattle.frame.specs.Addresses.{addressable};
 ghost use Rattle.promise.specs.Rules.{evented, in_range, state_under};
 ghost use Rattle.station.specs.Outcomes.{event_verdict, request_of, result_under};
 ghost use Rattle.station.specs.Stations.{state_of};
 
 use crate::station::Station;
 use bank::bank::Bank;
-use bus::answer::Event;
 use call::answer::CallRefusal;
-
-const LAST_ADDRESS: u8 = 31;
+use frame::address::MmdAddress;
+use mmd::event::Event;
 
 const LAST_LINE: u8 = 31;
 
 const LAST_COUNTER: u8 = 15;
 
 const LAST_BIT: u8 = 15;
-
-// A frame can name the port and the device.
-pub(crate) fn addressable(port: u8, device: u8) -> bool
-    ensures { result ≡ addressable port device }
-{
-    port <= LAST_ADDRESS && device <= LAST_ADDRESS
-}
 
 fn in_range(event: Event) -> bool
     ensures { result ≡ in_range (request_of event) }
@@ -36,22 +28,22 @@ fn in_range(event: Event) -> bool
     }
 }
 
-fn all_in_range(port: u8, device: u8, event: Event) -> bool
-    ensures { result ≡ (addressable port device && in_range (request_of event)) }
+fn all_in_range(address: MmdAddress, event: Event) -> bool
+    ensures { result ≡ (addressable address && in_range (request_of event)) }
 {
-    addressable(port, device) && in_range(event)
+    address.is_addressable() && in_range(event)
 }
 
 impl<B: Bank> Station<B> {
     // Takes an event to the MMD at that address, without a frame. A refused one changes nothing.
-    pub(crate) fn event(&mut self, port: u8, device: u8, event: Event) -> Result<(), CallRefusal>
-        ensures answer { result ≡ result_under (event_verdict port device event (state_of B.Bank.slots self.old).slots) tt }
-        ensures after { state_of B.Bank.slots self.new ≡ state_under (event_verdict port device event (state_of B.Bank.slots self.old).slots) (evented port device event (state_of B.Bank.slots self.old)) (state_of B.Bank.slots self.old) }
+    pub(crate) fn event(&mut self, address: MmdAddress, event: Event) -> Result<(), CallRefusal>
+        ensures answer { result ≡ result_under (event_verdict address event (state_of B.Bank.slots self.old).slots) tt }
+        ensures after { state_of B.Bank.slots self.new ≡ state_under (event_verdict address event (state_of B.Bank.slots self.old).slots) (evented address event (state_of B.Bank.slots self.old)) (state_of B.Bank.slots self.old) }
     {
-        if !all_in_range(port, device, event) {
+        if !all_in_range(address, event) {
             return Err(CallRefusal::OutOfRange);
         }
-        self.bus.event(port, device, event)?;
+        self.bus.event(address, event)?;
         Ok(())
     }
 }

@@ -1,5 +1,5 @@
 // A station: a bus over a bank, and the entries that are watched.
-ghost use Rattle.std.specs.Prelude.{◌≡◌, ◌<◌, true};
+ghost use Rattle.std.specs.Prelude.{◌≡◌, true};
 ghost use Rattle.station.specs.Named.{all_named};
 
 use bus::bus::Bus;
@@ -9,8 +9,6 @@ use watch_list::watch::Watched;
 pub struct Station<B> {
     pub(crate) bus: Bus<B>,
     pub(crate) watched: Vec<Watched>,
-    // the count fits its type
-    ghost counted: { bus.frames < 65536 },
     // a frame can name every entry's port and device
     ghost named: { all_named watched.items ≡ true },
 }

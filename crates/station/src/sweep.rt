@@ -5,14 +5,15 @@ ghost use Rattle.station.specs.Stations.{state_of};
 
 use crate::station::Station;
 use bank::bank::Bank;
+use frame::address::MmdAddress;
 
 impl<B: Bank> Station<B> {
     // Takes all entries of the MMD at that address, in list order. Nothing changes where there is no MMD.
-    pub(crate) fn sweep(&mut self, port: u8, device: u8)
-        ensures { state_of B.Bank.slots self.new ≡ swept port device (length (state_of B.Bank.slots self.old).watched) (state_of B.Bank.slots self.old) }
+    pub(crate) fn sweep(&mut self, address: MmdAddress)
+        ensures { state_of B.Bank.slots self.new ≡ swept address (length (state_of B.Bank.slots self.old).watched) (state_of B.Bank.slots self.old) }
     {
         for index in 0..self.watched.len() {
-            if self.watched[index].entry().is_of(port, device) {
+            if self.watched[index].entry().is_of(address) {
                 let _ = self.take(index);
             }
         }

@@ -11,20 +11,20 @@ ghost use Rattle.station.specs.Takes.{entry_verdict, registers_read, take_answer
 use crate::station::Station;
 use bank::bank::Bank;
 use call::answer::CallRefusal;
+use frame::address::MmdAddress;
 use watch_list::entry::Entry;
 
 impl<B: Bank> Station<B> {
     // Reads a register by two frames. A refused read changes nothing.
     pub(crate) fn read_register(
         &mut self,
-        port: u8,
-        device: u8,
+        address: MmdAddress,
         register: u16,
     ) -> Result<u16, CallRefusal>
-        ensures answer { result ≡ result_under (access_verdict port device (state_of B.Bank.slots self.old).slots) (data_of register (place port device (state_of B.Bank.slots self.old).slots)) }
-        ensures after { state_of B.Bank.slots self.new ≡ state_under (access_verdict port device (state_of B.Bank.slots self.old).slots) (read_by port device register None (state_of B.Bank.slots self.old)) (state_of B.Bank.slots self.old) }
+        ensures answer { result ≡ result_under (access_verdict address (state_of B.Bank.slots self.old).slots) (data_of register (place address (state_of B.Bank.slots self.old).slots)) }
+        ensures after { state_of B.Bank.slots self.new ≡ state_under (access_verdict address (state_of B.Bank.slots self.old).slots) (read_by address register None (state_of B.Bank.slots self.old)) (state_of B.Bank.slots self.old) }
     {
-        Ok(self.bus.read_register(port, device, register)?)
+        Ok(self.bus.read_register(address, register)?)
     }
 
     // Reads an entry's registers, and has all its words take the reading in. Answers the word of the first register.
@@ -56,12 +56,12 @@ impl<B: Bank> Station<B> {
     {
         match entry {
             Entry::Latch(latch) => {
-                let word = self.read_register(latch.port, latch.device, latch.register)?;
+                let word = self.read_register(latch.address, latch.register)?;
                 Ok((word, 0))
             }
             Entry::Count(count) => {
-                let high = self.read_register(count.port, count.device, count.high)?;
-                let low = self.read_register(count.port, count.device, count.low)?;
+                let high = self.read_register(count.address, count.high)?;
+                let low = self.read_register(count.address, count.low)?;
                 Ok((high, low))
             }
         }

@@ -6,4 +6,4 @@ use Rattle.station.proofs.hearing.hearing.Given as goal
 abbrev pub invariant-loop-index : goal.invariant-loop-index
 invariant-loop-index l =
     (l.index ≤ length l.watched)
-    × (hearing l.port l.device l.register l.watched ≡ further l.index (hearing l.port l.device l.register (drop l.index l.watched)))
+    × (hearing l.address l.register l.watched ≡ further l.index (hearing l.address l.register (drop l.index l.watched)))

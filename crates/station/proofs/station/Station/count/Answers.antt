@@ -1,5 +1,5 @@
 use Rattle.std.proofs.Common.{refl}
-use Rattle.bus.specs.declared.answer.Event.TheVariants.{Count}
+use Rattle.mmd.specs.declared.event.Event.TheVariants.{Count}
 use Rattle.promise.specs.Rules.{admitted, reply}
 use Rattle.station.specs.Stations.{state_of}
 use Rattle.station.proofs.Called.{event_called}
@@ -10,6 +10,6 @@ unfolding admitted reply
 returns g c =
     let state = state_of g.B.Bank.slots in
     let all =
-    event_called c.args.port c.args.device (Count c.args.counter c.args.amount) (state c.args.self.now) refl refl
+    event_called c.args.address (Count c.args.counter c.args.amount) (state c.args.self.now) refl refl
     c.event.result (state c.event.new.self) c.event.ensures.answer c.event.ensures.after in
     record { answer = all.0; after = all.1 }

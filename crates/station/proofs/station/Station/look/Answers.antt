@@ -16,7 +16,7 @@ invariant_of-self g c =
     let at = slice_get_read (vec_items s.watched) (vec_len s.watched) i w s.watched.ok.0 c.requires c.index_mut.ensures.value in
     let same : is_named (entry_of c.look.new.self) ≡ true =
     ap (λ x. is_named (entry_of x)) c.look.ensures.after ∙ ap is_named (entry_of_after_look c.args.watcher w) ∙ named_nth (vec_items s.watched) i w s.named at in
-    record { counted = s.counted; named = named_set (vec_items s.watched) i c.look.new.self s.named same }
+    record { named = named_set (vec_items s.watched) i c.look.new.self s.named same }
 
 pub returns : goal.returns
 returns g c =

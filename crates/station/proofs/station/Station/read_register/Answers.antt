@@ -10,7 +10,7 @@ returns-in_err-read_register g c =
     let bus = c.in_err-read_register.ensures in
     let s = c.args.self.now in
     let told =
-    read_accessed c.args.port c.args.device c.args.register (state_of g.B.Bank.slots s) s.counted
+    read_accessed c.args.address c.args.register (state_of g.B.Bank.slots s) s.bus.counted
     (Err c.in_err-read_register.field-0.0) (g.B.Bank.slots c.read_register.new.self.bank) c.read_register.new.self.frames
     bus.answer bus.slots bus.frames in
     record { answer = rw (exit.1, exit.2) told.0; after = told.1 }

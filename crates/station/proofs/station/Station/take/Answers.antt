@@ -42,7 +42,7 @@ invariant_of-self g c =
     let same : is_named (entry_of c.take_in.new.self) ≡ true =
     ap (λ x. is_named (entry_of x)) c.take_in.ensures ∙ ap is_named (entry_of_taken_in c.in_ok-word.word c.in_ok-word.low w₁)
     ∙ named_nth (vec_items after.watched) c.args.index w₁ after.named there in
-    record { counted = after.counted; named = named_set (vec_items after.watched) c.args.index c.take_in.new.self after.named same }
+    record { named = named_set (vec_items after.watched) c.args.index c.take_in.new.self after.named same }
 
 pub returns : goal.returns
 returns g c =

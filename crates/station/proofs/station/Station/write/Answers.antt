@@ -10,7 +10,7 @@ returns-in_err-write_register g c =
     let bus = c.in_err-write_register.ensures in
     let s = c.args.self.now in
     let all =
-    write_called c.args.port c.args.device c.args.register c.args.word (state_of g.B.Bank.slots s) s.counted
+    write_called c.args.address c.args.register c.args.word (state_of g.B.Bank.slots s) s.bus.counted
     (Err c.in_err-write_register.field-0.0) (g.B.Bank.slots c.write_register.new.self.bank) c.write_register.new.self.frames
     bus.answer bus.slots bus.frames in
     record { answer = rw (exit.1, exit.2) all.0; after = all.1 }
@@ -20,7 +20,7 @@ returns g c =
     let bus = c.in_ok-write_register.ensures in
     let s = c.args.self.now in
     let all =
-    write_called c.args.port c.args.device c.args.register c.args.word (state_of g.B.Bank.slots s) s.counted
+    write_called c.args.address c.args.register c.args.word (state_of g.B.Bank.slots s) s.bus.counted
     (Ok tt) (g.B.Bank.slots c.write_register.new.self.bank) c.write_register.new.self.frames
     bus.answer bus.slots bus.frames in
     record { answer = all.0; after = all.1 }
