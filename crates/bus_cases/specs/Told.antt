@@ -1,7 +1,6 @@
 -- What is told of each answer: its word, that it was taken, or the number of its refusal on the card.
 use Rattle.std.specs.Prelude.{ℕ, Some, None, Ok, Err, Option, Result}
-use Rattle.bank.specs.declared.deed.Done.{Done}
-use Rattle.bank.specs.declared.deed.Done.TheVariants.{Data as DataDone, Taken as TakenDone, Refused as RefusedDone}
+use Rattle.bank.specs.Deeds.{Done}
 use Rattle.bus.specs.Answers.{number_of}
 use Rattle.bus.specs.declared.answer.BusAnswer.{BusAnswer}
 use Rattle.bus.specs.declared.answer.BusAnswer.TheVariants.{Data as DataAnswer, Taken as TakenAnswer, Refused as RefusedAnswer}
@@ -25,6 +24,6 @@ taken_told (Err e) = Refused (number_of e)
 
 abbrev pub done_told : Option Done → Told
 done_told None = Nothing
-done_told (Some (DataDone word)) = Word word
-done_told (Some TakenDone) = Taken
-done_told (Some (RefusedDone e)) = Refused (mmds.number_of e)
+done_told (Some (Ok (Some word))) = Word word
+done_told (Some (Ok None)) = Taken
+done_told (Some (Err e)) = Refused (mmds.number_of e)

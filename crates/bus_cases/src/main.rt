@@ -7,9 +7,12 @@ use bank::bank::Bank;
 use bank::deed::Deed;
 use bank::pair::Pair;
 use bank::slot::Slot;
-use bus::answer::Event;
+use bank::wanted::Wanted;
 use bus::bus::Bus;
 use fec_mmd::fec::FecMmd;
+use frame::address::MmdAddress;
+use frame::frame::Operation;
+use mmd::event::Event;
 use std::io;
 use std::io::{BufWriter, Write};
 use told::{Told, told_done, told_frame, told_read, told_taken};
@@ -18,11 +21,10 @@ type Two = Pair<Slot<FecMmd>, Slot<FecMmd>>;
 
 enum Step {
     Frame(u32),
-    // port, device, register; and the word
-    Read(u8, u8, u16),
-    Write(u8, u8, u16, u16),
-    // port, device
-    Event(u8, u8, Event),
+    // the register, and the word
+    Read(MmdAddress, u16),
+    Write(MmdAddress, u16, u16),
+    Event(MmdAddress, Event),
     // frames that were not refused
     Frames,
 }
@@ -31,6 +33,25 @@ struct Case {
     name: &'static str,
     step: Step,
 }
+
+// two slots' addresses, and four that lead to no slot
+const FIRST: MmdAddress = MmdAddress { port: 1, device: 3 };
+
+const SECOND: MmdAddress = MmdAddress { port: 2, device: 1 };
+
+const NO_DEVICE: MmdAddress = MmdAddress { port: 1, device: 4 };
+
+const NO_PORT: MmdAddress = MmdAddress { port: 3, device: 3 };
+
+const PORT_40: MmdAddress = MmdAddress {
+    port: 40,
+    device: 3,
+};
+
+const DEVICE_32: MmdAddress = MmdAddress {
+    port: 1,
+    device: 32,
+};
 
 const COUNT_5: Event = Event::Count {
     counter: 0,
@@ -50,23 +71,23 @@ const FINISH: Event = Event::Finish {
 const CASES: [Case; 35] = [
     Case {
         name: "count at 1.3",
-        step: Step::Event(1, 3, COUNT_5),
+        step: Step::Event(FIRST, COUNT_5),
     },
     Case {
         name: "read 1.3.77",
-        step: Step::Read(1, 3, 77),
+        step: Step::Read(FIRST, 77),
     },
     Case {
         name: "read 1.3.76",
-        step: Step::Read(1, 3, 76),
+        step: Step::Read(FIRST, 76),
     },
     Case {
         name: "read 2.1.77",
-        step: Step::Read(2, 1, 77),
+        step: Step::Read(SECOND, 77),
     },
     Case {
         name: "read 2.1.76",
-        step: Step::Read(2, 1, 76),
+        step: Step::Read(SECOND, 76),
     },
     Case {
         name: "frames",
@@ -74,15 +95,15 @@ const CASES: [Case; 35] = [
     },
     Case {
         name: "write 2.1.75",
-        step: Step::Write(2, 1, 75, 3),
+        step: Step::Write(SECOND, 75, 3),
     },
     Case {
         name: "read 2.1.75",
-        step: Step::Read(2, 1, 75),
+        step: Step::Read(SECOND, 75),
     },
     Case {
         name: "read 1.3.75",
-        step: Step::Read(1, 3, 75),
+        step: Step::Read(FIRST, 75),
     },
     Case {
         name: "frames",
@@ -90,31 +111,31 @@ const CASES: [Case; 35] = [
     },
     Case {
         name: "read at no device",
-        step: Step::Read(1, 4, 75),
+        step: Step::Read(NO_DEVICE, 75),
     },
     Case {
         name: "write at no device",
-        step: Step::Write(1, 4, 75, 3),
+        step: Step::Write(NO_DEVICE, 75, 3),
     },
     Case {
         name: "read at no port",
-        step: Step::Read(3, 3, 75),
+        step: Step::Read(NO_PORT, 75),
     },
     Case {
         name: "write at no port",
-        step: Step::Write(3, 3, 75, 3),
+        step: Step::Write(NO_PORT, 75, 3),
     },
     Case {
         name: "read at port 40",
-        step: Step::Read(40, 3, 75),
+        step: Step::Read(PORT_40, 75),
     },
     Case {
         name: "write at port 40",
-        step: Step::Write(40, 3, 75, 3),
+        step: Step::Write(PORT_40, 75, 3),
     },
     Case {
         name: "read at device 32",
-        step: Step::Read(1, 32, 75),
+        step: Step::Read(DEVICE_32, 75),
     },
     Case {
         name: "frame to no device",
@@ -138,23 +159,23 @@ const CASES: [Case; 35] = [
     },
     Case {
         name: "count at port 40",
-        step: Step::Event(40, 3, COUNT_5),
+        step: Step::Event(PORT_40, COUNT_5),
     },
     Case {
         name: "count at no device",
-        step: Step::Event(1, 4, COUNT_5),
+        step: Step::Event(NO_DEVICE, COUNT_5),
     },
     Case {
         name: "count at no port",
-        step: Step::Event(3, 3, COUNT_5),
+        step: Step::Event(NO_PORT, COUNT_5),
     },
     Case {
         name: "count of no counter",
-        step: Step::Event(1, 3, COUNT_NONE),
+        step: Step::Event(FIRST, COUNT_NONE),
     },
     Case {
         name: "finish of no self-clearing bit",
-        step: Step::Event(1, 3, FINISH),
+        step: Step::Event(FIRST, FINISH),
     },
     Case {
         name: "frames",
@@ -192,9 +213,9 @@ const CASES: [Case; 35] = [
 
 fn main(rt: HostRuntime) -> io::Result<()> {
     let mut out = BufWriter::new(rt.alloc(), rt.stdout())?;
-    write_twins(&mut two(1, 3, 1, 3), &mut out)?;
-    let left = two(1, 3, 1, 3);
-    let right = two(2, 1, 40, 3);
+    write_twins(&mut two(FIRST, FIRST), &mut out)?;
+    let left = two(FIRST, FIRST);
+    let right = two(SECOND, PORT_40);
     let mut bus = Bus::new(Pair { left, right });
     for case in &CASES {
         write_line(case.name, work(&case.step, &mut bus), &mut out)?;
@@ -206,34 +227,46 @@ fn main(rt: HostRuntime) -> io::Result<()> {
     out.flush()
 }
 
-fn two(left_port: u8, left_device: u8, right_port: u8, right_device: u8) -> Two {
+fn two(left: MmdAddress, right: MmdAddress) -> Two {
     Pair {
-        left: Slot::new(left_port, left_device, FecMmd::new()),
-        right: Slot::new(right_port, right_device, FecMmd::new()),
+        left: Slot::new(left, FecMmd::new()),
+        right: Slot::new(right, FecMmd::new()),
     }
 }
 
 // Of two slots with one address the first is found, and the second stays as it was.
 fn write_twins<W: Write>(twins: &mut Two, out: &mut W) -> io::Result<()> {
-    let Some(slot) = twins.find(1, 3) else {
+    let Some(slot) = twins.find(Wanted::Mmd(FIRST)) else {
         return write_line("twins", Told::Nothing, out);
     };
-    twins.act(slot, Deed::Address(75));
-    twins.act(slot, Deed::Write(3));
-    twins.act(1, Deed::Address(75));
-    write_line("slot 0", told_done(twins.act(0, Deed::Read)), out)?;
-    write_line("slot 1", told_done(twins.act(1, Deed::Read)), out)?;
-    write_line("slot 2", told_done(twins.act(2, Deed::Read)), out)
+    twins.act(slot, Deed::Frame(Operation::Address { register: 75 }));
+    twins.act(slot, Deed::Frame(Operation::Write { data: 3 }));
+    twins.act(1, Deed::Frame(Operation::Address { register: 75 }));
+    write_line(
+        "slot 0",
+        told_done(twins.act(0, Deed::Frame(Operation::Read))),
+        out,
+    )?;
+    write_line(
+        "slot 1",
+        told_done(twins.act(1, Deed::Frame(Operation::Read))),
+        out,
+    )?;
+    write_line(
+        "slot 2",
+        told_done(twins.act(2, Deed::Frame(Operation::Read))),
+        out,
+    )
 }
 
 fn work<B: Bank>(step: &Step, bus: &mut Bus<B>) -> Told {
     match *step {
         Step::Frame(word) => told_frame(bus.frame(word)),
-        Step::Read(port, device, register) => told_read(bus.read_register(port, device, register)),
-        Step::Write(port, device, register, word) => told_taken(bus.write_register(
-            port, device, register, word,
-        )),
-        Step::Event(port, device, event) => told_taken(bus.event(port, device, event)),
+        Step::Read(address, register) => told_read(bus.read_register(address, register)),
+        Step::Write(address, register, word) => {
+            told_taken(bus.write_register(address, register, word))
+        }
+        Step::Event(address, event) => told_taken(bus.event(address, event)),
         Step::Frames => Told::Frames(bus.frames()),
     }
 }
@@ -242,7 +275,7 @@ fn write_line<W: Write>(name: &str, told: Told, out: &mut W) -> io::Result<()> {
     writeln!(out, "{name}: {told}")
 }
 
-// Read frames to port 1, device 3.
+// Read frames to the first address.
 fn read_often<B: Bank>(count: u32, bus: &mut Bus<B>) {
     for _ in 0..count {
         bus.frame(0x308c_0000);

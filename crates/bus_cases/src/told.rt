@@ -59,9 +59,9 @@ pub fn told_done(done: Option<Done>) -> Told
     ensures { result ≡ done_told done }
 {
     match done {
-        Some(Done::Data(word)) => Told::Word(word),
-        Some(Done::Taken) => Told::Taken,
-        Some(Done::Refused(refusal)) => Told::Refused(refusal.number()),
+        Some(Ok(Some(word))) => Told::Word(word),
+        Some(Ok(None)) => Told::Taken,
+        Some(Err(refusal)) => Told::Refused(refusal.number()),
         None => Told::Nothing,
     }
 }

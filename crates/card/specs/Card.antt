@@ -9,6 +9,7 @@ use Rattle.bus.specs.Places.{found, place}
 use Rattle.fec_mmd.specs.Device as fec
 use Rattle.fec_mmd.specs.Layout.{fec_layout}
 use Rattle.fec_mmd.specs.declared.fec.FecMmd.{FecMmd}
+use Rattle.frame.specs.declared.address.MmdAddress.{MmdAddress}
 use Rattle.mmd.specs.Cells.{latch, long_field}
 use Rattle.mmd.specs.Invariant.{Settled}
 use Rattle.mmd.specs.Meaning.{Meaning, new_meaning}
@@ -34,17 +35,23 @@ card_table = new_meaning (layout_of card_rows)
 abbrev pub card_fec : Meaning
 card_fec = new_meaning fec_layout
 
+abbrev pub at_table : MmdAddress
+at_table = record { port = 1; device = 1 }
+
+abbrev pub at_fec : MmdAddress
+at_fec = record { port = 1; device = 3 }
+
 -- a table MMD at port 1, device 1, and the FEC MMD at port 1, device 3
 abbrev pub card_slots : List SlotMeaning
 card_slots =
-    record { port = 1; device = 1; address = 0; mmd = card_table }
-    ∷ record { port = 1; device = 3; address = 0; mmd = card_fec } ∷ []
+    record { address = at_table; register = 0; mmd = card_table }
+    ∷ record { address = at_fec; register = 0; mmd = card_fec } ∷ []
 
 -- entry 0 is the latch 1.8.11, entry 1 counts 3.77 and 3.76
 abbrev pub card_entries : List Entry
 card_entries =
-    Latch (record { port = 1; device = 1; register = 8; high_mask = 0x0800; low_mask = 0 })
-    ∷ Count (record { port = 1; device = 3; high = 77; low = 76 }) ∷ []
+    Latch (record { address = at_table; register = 8; high_mask = 0x0800; low_mask = 0 })
+    ∷ Count (record { address = at_fec; high = 77; low = 76 }) ∷ []
 
 abbrev pub slots_of : Pair (Slot TableMmd) (Slot FecMmd) → List SlotMeaning
 slots_of b = (slot_meaning table.meaning_of b.left ∷ []) ++ (slot_meaning fec.meaning_of b.right ∷ [])
@@ -57,12 +64,12 @@ IsCardBank (Err e) = e ≡ Memory
 -- what the watchers' promise covers on the card
 pub record Covered : Type 0 where
   pub list_in_order : WellListed card_entries
-  pub table_found : place 1 1 card_slots ≡ found card_table
+  pub table_found : place at_table card_slots ≡ found card_table
   pub table_settled : Settled card_table
   -- 1.8.11 latches line 1 high, and stands in the high mask of entry 0
   pub latch_there : card_table.layout.cell 8 11 ≡ latch true 1
   pub latch_masked : bit 0x0800 11 ≡ true
-  pub fec_found : place 1 3 card_slots ≡ found card_fec
+  pub fec_found : place at_fec card_slots ≡ found card_fec
   pub fec_settled : Settled card_fec
   -- 3.77 and 3.76 are the halves of counter 0
   pub counter_there : card_fec.layout.field 0 ≡ long_field 77 76

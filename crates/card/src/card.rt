@@ -4,6 +4,7 @@ ghost use Rattle.card.specs.Card.{Covered, IsCardBank};
 use bank::pair::Pair;
 use bank::slot::Slot;
 use fec_mmd::fec::FecMmd;
+use frame::address::MmdAddress;
 use rows::row::Row;
 use std::alloc::Global;
 use table_mmd::fill::FillRefusal;
@@ -11,6 +12,10 @@ use table_mmd::table::TableMmd;
 use watch_list::entry::{CountEntry, Entry, LatchEntry};
 
 pub type CardBank = Pair<Slot<TableMmd>, Slot<FecMmd>>;
+
+const TABLE: MmdAddress = MmdAddress { port: 1, device: 1 };
+
+const FEC: MmdAddress = MmdAddress { port: 1, device: 3 };
 
 // 1.8.11 latches line 1 high, and 1.8.15:14 is fixed at 2.
 const ROWS: [Row; 2] = [
@@ -33,15 +38,13 @@ const ROWS: [Row; 2] = [
 // Entry 0 watches the latch 1.8.11, entry 1 the corrected codewords, 3.77 and 3.76.
 pub const WATCH_LIST: [Entry; 2] = [
     Entry::Latch(LatchEntry {
-        port: 1,
-        device: 1,
+        address: TABLE,
         register: 8,
         high_mask: 0x0800,
         low_mask: 0,
     }),
     Entry::Count(CountEntry {
-        port: 1,
-        device: 3,
+        address: FEC,
         high: 77,
         low: 76,
     }),
@@ -53,7 +56,7 @@ pub fn card_bank(heap: Global) -> Result<CardBank, FillRefusal>
     ensures covered { Covered }
 {
     let table = TableMmd::fill(heap, &ROWS)?;
-    let left = Slot::new(1, 1, table);
-    let right = Slot::new(1, 3, FecMmd::new());
+    let left = Slot::new(TABLE, table);
+    let right = Slot::new(FEC, FecMmd::new());
     Ok(Pair { left, right })
 }

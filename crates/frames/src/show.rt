@@ -1,5 +1,6 @@
 // What a frame word says and what the bus answers, in plain words.
 use bus::answer::{BusAnswer, BusRefusal};
+use frame::address::MmdAddress;
 use frame::frame::{Frame, Operation};
 use frame::refusal::FrameRefusal;
 use mmd::refusal::MmdRefusal;
@@ -11,11 +12,8 @@ pub struct FrameText(pub Frame);
 
 impl fmt::Display for FrameText {
     fn fmt<W: fmt::Write>(&self, f: &mut fmt::Formatter<W>) -> fmt::Result {
-        let Frame {
-            port,
-            device,
-            operation,
-        } = self.0;
+        let Frame { address, operation } = self.0;
+        let MmdAddress { port, device } = address;
         match operation {
             Operation::Address { register } => write!(
                 f,

@@ -32,9 +32,9 @@ line_back byte h = grind (arith, nat_tests)
 pub spelled_is_decoded : (call : Call) (rest : List ℕ) → FitsRecord call → decode_of (record_of call ++ rest) ≡ Ok (Some (record { call = call; rest = rest }))
 unfolding decode_of
 spelled_is_decoded (WatchRead watcher entry) rest h = refl
-spelled_is_decoded (At port device (Read register)) rest h = let r = joined register in cc
-spelled_is_decoded (At port device (Write register word)) rest h = let r = joined register in let w = joined word in cc
-spelled_is_decoded (At port device (Line number up)) rest h = let n = line_number number up h in let u = line_up number up h in cc
-spelled_is_decoded (At port device (Count counter amount)) rest h = let a = joined amount in cc
-spelled_is_decoded (At port device (Finish register bit)) rest h = let r = joined register in cc
-spelled_is_decoded (At port device Reset) rest h = refl
+spelled_is_decoded (At address (Read register)) rest h = let r = joined register in cc
+spelled_is_decoded (At address (Write register word)) rest h = let r = joined register in let w = joined word in cc
+spelled_is_decoded (At address (Line number up)) rest h = let n = line_number number up h in let u = line_up number up h in cc
+spelled_is_decoded (At address (Count counter amount)) rest h = let a = joined amount in cc
+spelled_is_decoded (At address (Finish register bit)) rest h = let r = joined register in cc
+spelled_is_decoded (At address Reset) rest h = refl

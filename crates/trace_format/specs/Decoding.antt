@@ -18,7 +18,7 @@ RequestFits Reset = Unit {0}
 
 abbrev pub FitsRecord : Call → Type 0
 FitsRecord (WatchRead watcher entry) = Unit {0}
-FitsRecord (At port device request) = RequestFits request
+FitsRecord (At address request) = RequestFits request
 
 -- a list of bytes
 abbrev pub Bytes : List ℕ → Type 0

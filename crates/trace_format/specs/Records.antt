@@ -1,6 +1,7 @@
 -- Trace records: how a call is spelled as bytes, and which call the bytes of an input spell.
 -- A record's first byte is a map. Bit k of the map says that field k follows; the fields come lowest bit first.
 use Rattle.std.specs.Prelude.{ℕ, ◌+◌, ◌*◌, ◌/◌, ◌%◌, ◌^◌, Bool, cond, List, [], ◌∷◌, ◌++◌, Some, None, Ok, Err, Option, Result, ◌==◌, nat_le}
+use Rattle.frame.specs.declared.address.MmdAddress.{MmdAddress}
 use Rattle.call.specs.declared.call.Call.{Call}
 use Rattle.call.specs.declared.call.Call.TheVariants.{WatchRead, At}
 use Rattle.call.specs.declared.call.Request.{Request}
@@ -35,7 +36,7 @@ request_fields Reset = record { place = 6; bytes = [] } ∷ []
 
 abbrev pub fields_of : Call → List Field
 fields_of (WatchRead watcher entry) = record { place = 3; bytes = watcher ∷ entry ∷ [] } ∷ []
-fields_of (At port device request) = record { place = 0; bytes = port ∷ device ∷ [] } ∷ request_fields request
+fields_of (At address request) = record { place = 0; bytes = address.port ∷ address.device ∷ [] } ∷ request_fields request
 
 -- the byte in which just the bits of these fields stand
 abbrev pub map_of : List Field → ℕ
@@ -64,31 +65,35 @@ byte next (b ∷ rest) = next b rest
 abbrev pub word : (ℕ → List ℕ → Result Taken TraceRefusal) → List ℕ → Result Taken TraceRefusal
 word next = byte (λ high. byte (λ low. next (high * 256 + low)))
 
--- the fields are whole, and spell this request at a port and device
-abbrev pub asks : ℕ → ℕ → Request → List ℕ → Result Taken TraceRefusal
-asks port device request rest = Ok (record { call = At port device request; rest = rest })
+-- the next two bytes, as a port and a device
+abbrev pub address : (MmdAddress → List ℕ → Result Taken TraceRefusal) → List ℕ → Result Taken TraceRefusal
+address next = byte (λ port. byte (λ device. next (record { port = port; device = device })))
+
+-- the fields are whole, and spell this request at an address
+abbrev pub asks : MmdAddress → Request → List ℕ → Result Taken TraceRefusal
+asks at request rest = Ok (record { call = At at request; rest = rest })
 
 -- what the bytes behind each map spell
 abbrev pub plain_read_in : List ℕ → Result Taken TraceRefusal
-plain_read_in = byte (λ port. byte (λ device. word (λ register. asks port device (Read register))))
+plain_read_in = address (λ at. word (λ register. asks at (Read register)))
 
 abbrev pub write_in : List ℕ → Result Taken TraceRefusal
-write_in = byte (λ port. byte (λ device. word (λ register. word (λ value. asks port device (Write register value)))))
+write_in = address (λ at. word (λ register. word (λ value. asks at (Write register value))))
 
 abbrev pub watch_read_in : List ℕ → Result Taken TraceRefusal
 watch_read_in = byte (λ watcher. byte (λ entry rest. Ok (record { call = WatchRead watcher entry; rest = rest })))
 
 abbrev pub line_in : List ℕ → Result Taken TraceRefusal
-line_in = byte (λ port. byte (λ device. byte (λ line. asks port device (Line (line % 128) (nat_le 128 line)))))
+line_in = address (λ at. byte (λ line. asks at (Line (line % 128) (nat_le 128 line))))
 
 abbrev pub count_in : List ℕ → Result Taken TraceRefusal
-count_in = byte (λ port. byte (λ device. byte (λ counter. word (λ amount. asks port device (Count counter amount)))))
+count_in = address (λ at. byte (λ counter. word (λ amount. asks at (Count counter amount))))
 
 abbrev pub reset_in : List ℕ → Result Taken TraceRefusal
-reset_in = byte (λ port. byte (λ device. asks port device Reset))
+reset_in = address (λ at. asks at Reset)
 
 abbrev pub finish_in : List ℕ → Result Taken TraceRefusal
-finish_in = byte (λ port. byte (λ device. word (λ register. byte (λ bit. asks port device (Finish register bit)))))
+finish_in = address (λ at. word (λ register. byte (λ bit. asks at (Finish register bit))))
 
 -- what a map and the bytes behind it spell: the map is looked at first
 abbrev pub record_in : ℕ → List ℕ → Result Taken TraceRefusal

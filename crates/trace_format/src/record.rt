@@ -10,6 +10,7 @@ ghost use Rattle.trace_format.specs.Records.{count_in, decode_of, decoded, finis
 
 use crate::refusal::TraceRefusal;
 use call::call::{Call, Request};
+use frame::address::MmdAddress;
 
 // The maps that are listed.
 const PLAIN_READ: u8 = 0x03;
@@ -147,14 +148,11 @@ fn finish(fields: &[u8]) -> Result<Record<'_>, TraceRefusal>
     Ok(asking(*port, *device, request, rest))
 }
 
-// What is asked of the MMD at a port and device, and the input behind that.
+// What is asked of the MMD at an address, and the input behind that.
 fn asking(port: u8, device: u8, request: Request, rest: &[u8]) -> Record<'_>
-    ensures { taken_by result ≡ record { call = Call.At port device request; rest = rest.now } }
+    ensures { taken_by result ≡ record { call = Call.At (record { port = port; device = device }) request; rest = rest.now } }
 {
-    let call = Call::At {
-        port,
-        device,
-        request,
-    };
+    let address = MmdAddress { port, device };
+    let call = Call::At { address, request };
     Record { call, rest }
 }

@@ -15,7 +15,7 @@ use Rattle.rows.specs.declared.row.Row.{Row}
 -- ---- frames: port 1, device 3
 
 abbrev pub at_1_3 : Operation → Frame
-at_1_3 operation = record { port = 1; device = 3; operation = operation }
+at_1_3 operation = record { address = record { port = 1; device = 3 }; operation = operation }
 
 -- ---- MMDs
 
@@ -54,10 +54,10 @@ control = new (row 0 11 11 5 0 ∷ row 0 15 15 6 0 ∷ [])
 -- ---- a bus: one slot, at port 1 and device 3, by where its address register is
 
 abbrev pub pointing_at : ℕ → List SlotMeaning
-pointing_at register = record { port = 1; device = 3; address = register; mmd = control } ∷ []
+pointing_at register = record { address = record { port = 1; device = 3 }; register = register; mmd = control } ∷ []
 
 abbrev pub pointers : List SlotMeaning → List ℕ
-pointers slots = map (λ s. s.address) slots
+pointers slots = map (λ s. s.register) slots
 
 pub record WorkedExamples : Type 0 where
   -- 0x008E004C is address, port 1, device 3, register 76

@@ -16,12 +16,12 @@ returns-in_err-table c =
 
 pub returns : goal.returns
 returns c =
-    let left : slot_meaning table.meaning_of c.new-left.result ≡ record { port = 1; device = 1; address = 0; mmd = table.meaning_of c.in_ok-table.table } = ap (slot_meaning table.meaning_of) c.new-left.ensures in
-    let right : slot_meaning fec.meaning_of c.new-right.result ≡ record { port = 1; device = 3; address = 0; mmd = fec.meaning_of c.new.result } = ap (slot_meaning fec.meaning_of) c.new-right.ensures in
+    let left : slot_meaning table.meaning_of c.new-left.result ≡ record { address = record { port = 1; device = 1 }; register = 0; mmd = table.meaning_of c.in_ok-table.table } = ap (slot_meaning table.meaning_of) c.new-left.ensures in
+    let right : slot_meaning fec.meaning_of c.new-right.result ≡ record { address = record { port = 1; device = 3 }; register = 0; mmd = fec.meaning_of c.new.result } = ap (slot_meaning fec.meaning_of) c.new-right.ensures in
     let filled = c.in_ok-table.ensures.filled.1 in
     record {
       bank = ap₂ (λ (a b : SlotMeaning). a ∷ (b ∷ []))
-          (left ∙ ap (λ (m : Meaning). record { port = 1; device = 1; address = 0; mmd = m }) filled)
-          (right ∙ ap (λ (m : Meaning). record { port = 1; device = 3; address = 0; mmd = m }) c.new.ensures);
+          (left ∙ ap (λ (m : Meaning). record { address = record { port = 1; device = 1 }; register = 0; mmd = m }) filled)
+          (right ∙ ap (λ (m : Meaning). record { address = record { port = 1; device = 3 }; register = 0; mmd = m }) c.new.ensures);
       covered = covered;
     }
