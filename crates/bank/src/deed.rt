@@ -1,7 +1,7 @@
 // What can be asked of the MMD in a slot, and what it answers.
 use mmd::refusal::MmdRefusal;
 
-#[derive(Clone, Copy)]
+#[derive(Clone, Copy, PartialEq, Eq, Debug)]
 pub enum Deed {
     // the four frames: store the address; write, read, or read and step at the stored address
     Address(u16),
@@ -15,7 +15,7 @@ pub enum Deed {
     Reset,
 }
 
-#[derive(Clone, Copy)]
+#[derive(Clone, Copy, PartialEq, Eq, Debug)]
 pub enum Done {
     Data(u16),
     Taken,

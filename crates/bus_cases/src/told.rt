@@ -6,7 +6,7 @@ use bank::deed::Done;
 use bus::answer::{BusAnswer, BusRefusal};
 use std::fmt;
 
-#[derive(Clone, Copy)]
+#[derive(Clone, Copy, PartialEq, Eq, Debug)]
 pub enum Told {
     Word(u16),
     Taken,

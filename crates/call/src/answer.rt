@@ -4,16 +4,18 @@ ghost use Rattle.call.specs.Answers.{number_of, refusal_from};
 
 use bus::answer::BusRefusal;
 use mmd::refusal::MmdRefusal;
+use thiserror::Error;
 
-#[derive(Clone, Copy)]
+#[derive(Clone, Copy, PartialEq, Eq, Debug, Error)]
 pub enum CallRefusal {
-    // port, device or line above 31, watcher above 7, entry not listed, counter or bit above 15
+    #[error("port, device or line above 31, watcher above 7, entry not listed, counter or bit above 15")]
     OutOfRange,
-    // no slot has the port
+    #[error("no slot has the port")]
     NoPort,
-    // the port is there, the device is not
+    #[error("the port has no such device")]
     NoDevice,
     // the MMD refuses
+    #[error(transparent)]
     Mmd(MmdRefusal),
 }
 
@@ -45,7 +47,7 @@ impl From<BusRefusal> for CallRefusal {
     }
 }
 
-#[derive(Clone, Copy)]
+#[derive(Clone, Copy, PartialEq, Eq, Debug)]
 pub enum Answer {
     // a plain read: the register's 16 bits
     Data(u16),

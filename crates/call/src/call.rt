@@ -1,7 +1,7 @@
 // What can be asked of a station.
 
 // What is asked of the MMD at a port and device.
-#[derive(Clone, Copy)]
+#[derive(Clone, Copy, PartialEq, Eq, Debug)]
 pub enum Request {
     // a plain read
     Read { register: u16 },
@@ -14,7 +14,7 @@ pub enum Request {
     Reset,
 }
 
-#[derive(Clone, Copy)]
+#[derive(Clone, Copy, PartialEq, Eq, Debug)]
 pub enum Call {
     // a watcher looks at an entry of the watch list
     WatchRead {

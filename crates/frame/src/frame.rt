@@ -1,4 +1,5 @@
 // A management frame: the operation, and the port and device that it names.
+use std::fmt;
 
 // The operation of a frame, with the 16 bits that it carries; a read frame carries none.
 #[derive(Clone, Copy, PartialEq, Eq, Debug)]
@@ -14,4 +15,30 @@ pub struct Frame {
     pub port: u8,
     pub device: u8,
     pub operation: Operation,
+}
+
+// In plain words.
+impl fmt::Display for Frame {
+    fn fmt<W: fmt::Write>(&self, f: &mut fmt::Formatter<W>) -> fmt::Result {
+        let Frame {
+            port,
+            device,
+            operation,
+        } = *self;
+        match operation {
+            Operation::Address { register } => write!(
+                f,
+                "address port {port} device {device} register {register}"
+            ),
+            Operation::Write { data } => write!(
+                f,
+                "write port {port} device {device} data {data:#06x}"
+            ),
+            Operation::Read => write!(f, "read port {port} device {device}"),
+            Operation::PostReadIncrement => write!(
+                f,
+                "post-read-increment port {port} device {device}"
+            ),
+        }
+    }
 }

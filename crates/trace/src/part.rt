@@ -11,7 +11,7 @@ use trace_format::line::LINE_MAX;
 // The length of the longest record.
 const RECORD_MAX: usize = 7;
 
-#[derive(Clone, Copy)]
+#[derive(Clone, Copy, PartialEq, Eq, Debug)]
 pub struct Part {
     // how much of the input was worked, and how much of the buffer was written
     pub taken: usize,

@@ -5,7 +5,7 @@ ghost use Rattle.watch_list.specs.Watches.{latch_told};
 
 use joining::latch::LatchWord;
 
-#[derive(Clone, Copy)]
+#[derive(Clone, Copy, PartialEq, Eq, Debug)]
 pub struct LatchEntry {
     pub port: u8,
     pub device: u8,
@@ -25,7 +25,7 @@ impl LatchEntry {
     }
 }
 
-#[derive(Clone, Copy)]
+#[derive(Clone, Copy, PartialEq, Eq, Debug)]
 pub struct CountEntry {
     pub port: u8,
     pub device: u8,
@@ -34,7 +34,7 @@ pub struct CountEntry {
     pub low: u16,
 }
 
-#[derive(Clone, Copy)]
+#[derive(Clone, Copy, PartialEq, Eq, Debug)]
 pub enum Entry {
     Latch(LatchEntry),
     Count(CountEntry),
