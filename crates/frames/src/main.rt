@@ -4,17 +4,14 @@
 
 mod listing;
 mod scan;
-mod show;
 
 use anyhow::anyhow;
 use bank::bank::Bank;
-use bus::answer::{BusAnswer, BusRefusal};
 use bus::bus::Bus;
 use card::card::card_bank;
 use frame::word::split;
 use listing::{Listing, NumberedLine};
 use scan::Line;
-use show::{AnswerText, FrameText};
 use std::io;
 use std::io::{BufWriter, Read, Write};
 
@@ -60,7 +57,7 @@ fn write_line<B: Bank, W: Write>(
 
 fn write_word<B: Bank, W: Write>(word: u32, bus: &mut Bus<B>, out: &mut W) -> io::Result<()> {
     if let Ok(frame) = split(word) {
-        writeln!(out, "{}", FrameText(frame))?;
+        writeln!(out, "{frame}")?;
     }
-    writeln!(out, "{}", AnswerText(bus.frame(word)))
+    writeln!(out, "{}", bus.frame(word))
 }

@@ -1,11 +1,14 @@
 // A set-up that was refused.
+use std::alloc::AllocError;
+use thiserror::Error;
 use watch_list::fault::ListFaultAt;
 
-#[derive(Clone, Copy)]
+#[derive(Clone, Copy, PartialEq, Eq, Debug, Error)]
 pub enum Why {
     // what is wrong with the watch list, and where
+    #[error(transparent)]
     Listed(ListFaultAt),
-    // no memory
+    #[error("no memory")]
     Memory,
 }
 
