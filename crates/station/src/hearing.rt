@@ -16,10 +16,7 @@ fn hears(watched: &Watched, port: u8, device: u8, register: u16) -> bool
 pub(crate) fn hearing(watched: &[Watched], port: u8, device: u8, register: u16) -> Option<usize>
     ensures { result ≡ hearing port device register watched.now }
 {
-    for (index, entry) in watched.iter().enumerate() {
-        if hears(entry, port, device, register) {
-            return Some(index);
-        }
-    }
-    None
+    watched
+        .iter()
+        .position(|entry| hears(entry, port, device, register))
 }

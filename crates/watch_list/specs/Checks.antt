@@ -1,5 +1,6 @@
 -- Which watch lists are refused: too many entries first, then entry by entry from the first, each by the rules in their order.
-use Rattle.std.specs.Prelude.{◌≡◌, ℕ, Bool, false, cond, not, ◌&&◌, ◌||◌, List, [], ◌∷◌, ◌++◌, length, Some, None, Ok, Err, Option, Result, ◌==◌, bit_and, nat_le, nat_lt}
+use Rattle.std.specs.Prelude.{◌≡◌, ℕ, Bool, cond, not, ◌&&◌, ◌||◌, List, [], ◌∷◌, ◌++◌, length, Some, None, Ok, Err, Option, Result, ◌==◌, bit_and, nat_le, nat_lt}
+use Rattle.std.specs.List.{list_any}
 use Rattle.watch_list.specs.Entries.{device_of, is_of, names, port_of}
 use Rattle.watch_list.specs.Lists.{WellListed}
 use Rattle.watch_list.specs.declared.entry.Entry.{Entry}
@@ -30,8 +31,7 @@ clashes e f = is_of (port_of e) (device_of e) f && shares_register e f
 
 -- an earlier entry of that MMD names one of its registers
 abbrev pub is_taken : List Entry → Entry → Bool
-is_taken [] e = false
-is_taken (f ∷ earlier) e = clashes e f || is_taken earlier e
+is_taken earlier e = list_any (clashes e) earlier
 
 -- the first rule that an entry breaks after these
 abbrev pub entry_fault : List Entry → Entry → Option ListFault

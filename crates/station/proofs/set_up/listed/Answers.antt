@@ -1,4 +1,4 @@
-use Rattle.std.proofs.Common.{vec_items, sym, ◌∙◌}
+use Rattle.std.proofs.Common.{vec_items, sym}
 use Rattle.station.proofs.Named.{named_checked}
 use Rattle.station.proofs.set_up.listed.Goals as goal
 
