@@ -12,7 +12,7 @@ use bus::bus::Bus;
 use fec_mmd::fec::FecMmd;
 use std::io;
 use std::io::{BufWriter, Write};
-use told::{Told, told_done, told_frame, told_read, told_taken};
+use told::Told;
 
 type Two = Pair<Slot<FecMmd>, Slot<FecMmd>>;
 
@@ -221,19 +221,17 @@ fn write_twins<W: Write>(twins: &mut Two, out: &mut W) -> io::Result<()> {
     twins.act(slot, Deed::Address(75));
     twins.act(slot, Deed::Write(3));
     twins.act(1, Deed::Address(75));
-    write_line("slot 0", told_done(twins.act(0, Deed::Read)), out)?;
-    write_line("slot 1", told_done(twins.act(1, Deed::Read)), out)?;
-    write_line("slot 2", told_done(twins.act(2, Deed::Read)), out)
+    write_line("slot 0", twins.act(0, Deed::Read).into(), out)?;
+    write_line("slot 1", twins.act(1, Deed::Read).into(), out)?;
+    write_line("slot 2", twins.act(2, Deed::Read).into(), out)
 }
 
 fn work<B: Bank>(step: &Step, bus: &mut Bus<B>) -> Told {
     match *step {
-        Step::Frame(word) => told_frame(bus.frame(word)),
-        Step::Read(port, device, register) => told_read(bus.read_register(port, device, register)),
-        Step::Write(port, device, register, word) => told_taken(bus.write_register(
-            port, device, register, word,
-        )),
-        Step::Event(port, device, event) => told_taken(bus.event(port, device, event)),
+        Step::Frame(word) => bus.frame(word).into(),
+        Step::Read(port, device, register) => bus.read_register(port, device, register).into(),
+        Step::Write(port, device, register, word) => bus.write_register(port, device, register, word).into(),
+        Step::Event(port, device, event) => bus.event(port, device, event).into(),
         Step::Frames => Told::Frames(bus.frames()),
     }
 }
