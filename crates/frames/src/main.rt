@@ -13,28 +13,19 @@ use frame::word::split;
 use listing::{Listing, NumberedLine};
 use scan::Line;
 use std::io;
-use std::io::{BufWriter, Read, Write};
+use std::io::{BufReader, BufWriter, Read, Write};
 
 const CHUNK: usize = 65536;
 
 fn main(rt: HostRuntime) -> anyhow::Result<()> {
-    let mut input = rt.stdin();
+    let input = BufReader::with_capacity(rt.alloc(), CHUNK, rt.stdin())?;
     let mut out = BufWriter::new(rt.alloc(), rt.stdout())?;
-    let mut chunk = vec![in rt.alloc(); 0u8; CHUNK]?;
-    let Ok(bank) = card_bank(rt.alloc()) else {
-        return Err(anyhow!("no memory for the card's table"));
-    };
+    let bank = card_bank(rt.alloc()).map_err(|_| anyhow!("no memory for the card's table"))?;
     let mut bus = Bus::new(bank);
     let mut listing = Listing::new();
-    for _ in 0..u64::MAX {
-        let count = input.read(chunk.as_mut_slice())?;
-        if count == 0 {
-            break;
-        }
-        for byte in chunk.iter().take(count) {
-            if let Some(ended) = listing.take(*byte) {
-                write_line(ended, &mut bus, &mut out)?;
-            }
+    for byte in input.bytes() {
+        if let Some(ended) = listing.take(byte?) {
+            write_line(ended, &mut bus, &mut out)?;
         }
     }
     write_line(listing.last(), &mut bus, &mut out)?;
