@@ -5,16 +5,20 @@ ghost use Rattle.bus.specs.declared.answer.BusRefusal.TheVariants.{Frame, Mmd};
 
 use frame::refusal::FrameRefusal;
 use mmd::refusal::MmdRefusal;
+use std::fmt;
+use thiserror::Error;
 
-#[derive(Clone, Copy, PartialEq, Eq, Debug)]
+#[derive(Clone, Copy, PartialEq, Eq, Debug, Error)]
 pub enum BusRefusal {
     // the word is no frame
+    #[error(transparent)]
     Frame(FrameRefusal),
-    // no slot has the port
+    #[error("no slot has the port")]
     NoPort,
-    // the port is there, the device is not
+    #[error("the port has no such device")]
     NoDevice,
     // the MMD refuses the event
+    #[error(transparent)]
     Mmd(MmdRefusal),
 }
 
@@ -65,6 +69,20 @@ impl From<Result<Option<u16>, BusRefusal>> for BusAnswer {
             Ok(Some(word)) => BusAnswer::Data(word),
             Ok(None) => BusAnswer::Taken,
             Err(refusal) => BusAnswer::Refused(refusal),
+        }
+    }
+}
+
+// In plain words.
+impl fmt::Display for BusAnswer {
+    fn fmt<W: fmt::Write>(&self, f: &mut fmt::Formatter<W>) -> fmt::Result {
+        match *self {
+            BusAnswer::Data(word) => write!(f, "data {word:#06x}"),
+            BusAnswer::Taken => f.write_str("taken"),
+            BusAnswer::Refused(refusal) => {
+                let number = refusal.number();
+                write!(f, "refused {number}: {refusal}")
+            }
         }
     }
 }

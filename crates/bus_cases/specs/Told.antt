@@ -1,10 +1,9 @@
 -- What is told of each answer: its word, that it was taken, or the number of its refusal on the card.
-use Rattle.std.specs.Prelude.{ℕ, Some, None, Ok, Err, Option, Result}
+use Rattle.std.specs.Prelude.{Ok, Err, Some, None, Option}
 use Rattle.bank.specs.Deeds.{Done}
 use Rattle.bus.specs.Answers.{number_of}
 use Rattle.bus.specs.declared.answer.BusAnswer.{BusAnswer}
 use Rattle.bus.specs.declared.answer.BusAnswer.TheVariants.{Data as DataAnswer, Taken as TakenAnswer, Refused as RefusedAnswer}
-use Rattle.bus.specs.declared.answer.BusRefusal.{BusRefusal}
 use Rattle.mmd.specs.Refusals as mmds
 use Rattle.bus_cases.specs.declared.told.Told.{Told}
 use Rattle.bus_cases.specs.declared.told.Told.TheVariants.{Word, Taken, Refused, Nothing}
@@ -13,14 +12,6 @@ abbrev pub frame_told : BusAnswer → Told
 frame_told (DataAnswer word) = Word word
 frame_told TakenAnswer = Taken
 frame_told (RefusedAnswer e) = Refused (number_of e)
-
-abbrev pub read_told : Result ℕ BusRefusal → Told
-read_told (Ok word) = Word word
-read_told (Err e) = Refused (number_of e)
-
-abbrev pub taken_told : Result (Unit {0}) BusRefusal → Told
-taken_told (Ok u) = Taken
-taken_told (Err e) = Refused (number_of e)
 
 abbrev pub done_told : Option Done → Told
 done_told None = Nothing

@@ -15,7 +15,7 @@ use frame::frame::Operation;
 use mmd::event::Event;
 use std::io;
 use std::io::{BufWriter, Write};
-use told::{Told, told_done, told_frame, told_read, told_taken};
+use told::Told;
 
 type Two = Pair<Slot<FecMmd>, Slot<FecMmd>>;
 
@@ -244,29 +244,27 @@ fn write_twins<W: Write>(twins: &mut Two, out: &mut W) -> io::Result<()> {
     twins.act(1, Deed::Frame(Operation::Address { register: 75 }));
     write_line(
         "slot 0",
-        told_done(twins.act(0, Deed::Frame(Operation::Read))),
+        twins.act(0, Deed::Frame(Operation::Read)).into(),
         out,
     )?;
     write_line(
         "slot 1",
-        told_done(twins.act(1, Deed::Frame(Operation::Read))),
+        twins.act(1, Deed::Frame(Operation::Read)).into(),
         out,
     )?;
     write_line(
         "slot 2",
-        told_done(twins.act(2, Deed::Frame(Operation::Read))),
+        twins.act(2, Deed::Frame(Operation::Read)).into(),
         out,
     )
 }
 
 fn work<B: Bank>(step: &Step, bus: &mut Bus<B>) -> Told {
     match *step {
-        Step::Frame(word) => told_frame(bus.frame(word)),
-        Step::Read(address, register) => told_read(bus.read_register(address, register)),
-        Step::Write(address, register, word) => {
-            told_taken(bus.write_register(address, register, word))
-        }
-        Step::Event(address, event) => told_taken(bus.event(address, event)),
+        Step::Frame(word) => bus.frame(word).into(),
+        Step::Read(address, register) => bus.read_register(address, register).into(),
+        Step::Write(address, register, word) => bus.write_register(address, register, word).into(),
+        Step::Event(address, event) => bus.event(address, event).into(),
         Step::Frames => Told::Frames(bus.frames()),
     }
 }

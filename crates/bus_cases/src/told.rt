@@ -1,12 +1,14 @@
 // What is told of a step, as the end of its line.
-ghost use Rattle.std.specs.Prelude.{◌≡◌};
-ghost use Rattle.bus_cases.specs.Told.{done_told, frame_told, read_told, taken_told};
+ghost use Rattle.std.specs.Prelude.{◌≡◌, MatchResult};
+ghost use Rattle.bus.specs.Answers.{number_of};
+ghost use Rattle.bus_cases.specs.declared.told.Told.TheVariants.{Refused, Taken, Word};
+ghost use Rattle.bus_cases.specs.Told.{done_told, frame_told};
 
 use bank::deed::Done;
 use bus::answer::{BusAnswer, BusRefusal};
 use std::fmt;
 
-#[derive(Clone, Copy)]
+#[derive(Clone, Copy, PartialEq, Eq, Debug)]
 pub enum Told {
     Word(u16),
     Taken,
@@ -27,41 +29,66 @@ impl fmt::Display for Told {
     }
 }
 
-pub fn told_frame(answer: BusAnswer) -> Told
-    ensures { result ≡ frame_told answer }
-{
-    match answer {
-        BusAnswer::Data(word) => Told::Word(word),
-        BusAnswer::Taken => Told::Taken,
-        BusAnswer::Refused(refusal) => Told::Refused(refusal.number()),
+// What a register read gives.
+impl From<u16> for Told {
+    ghost from_gives = { λ word told. told ≡ Word word };
+
+    fn from(word: u16) -> Told {
+        Told::Word(word)
     }
 }
 
-pub fn told_read(answer: Result<u16, BusRefusal>) -> Told
-    ensures { result ≡ read_told answer }
-{
-    match answer {
-        Ok(word) => Told::Word(word),
-        Err(refusal) => Told::Refused(refusal.number()),
+// What a register write or an event gives.
+impl From<()> for Told {
+    ghost from_gives = { λ _ told. told ≡ Taken };
+
+    fn from(_taken: ()) -> Told {
+        Told::Taken
     }
 }
 
-pub fn told_taken(answer: Result<(), BusRefusal>) -> Told
-    ensures { result ≡ taken_told answer }
-{
-    match answer {
-        Ok(()) => Told::Taken,
-        Err(refusal) => Told::Refused(refusal.number()),
+impl From<BusRefusal> for Told {
+    ghost from_gives = { λ refusal told. told ≡ Refused (number_of refusal) };
+
+    fn from(refusal: BusRefusal) -> Told {
+        Told::Refused(refusal.number())
     }
 }
 
-pub fn told_done(done: Option<Done>) -> Told
-    ensures { result ≡ done_told done }
-{
-    match done {
-        Some(Ok(Some(word))) => Told::Word(word),
-        Some(Ok(None)) => Told::Taken,
-        Some(Err(refusal)) => Told::Refused(refusal.number()),
-        None => Told::Nothing,
+impl From<BusAnswer> for Told {
+    ghost from_gives = { λ answer told. told ≡ frame_told answer };
+
+    fn from(answer: BusAnswer) -> Told {
+        match answer {
+            BusAnswer::Data(word) => word.into(),
+            BusAnswer::Taken => Told::Taken,
+            BusAnswer::Refused(refusal) => refusal.into(),
+        }
+    }
+}
+
+// Of a register access or an event: what it gives, or its refusal.
+impl<T: Into<Told>> From<Result<T, BusRefusal>> for Told {
+    ghost from_gives = { λ given told. MatchResult given (λ value. T.Into.converts value told) (λ refusal. told ≡ Refused (number_of refusal)) };
+
+    fn from(given: Result<T, BusRefusal>) -> Told {
+        match given {
+            Ok(value) => value.into(),
+            Err(refusal) => refusal.into(),
+        }
+    }
+}
+
+// Of a deed at a slot.
+impl From<Option<Done>> for Told {
+    ghost from_gives = { λ done told. told ≡ done_told done };
+
+    fn from(done: Option<Done>) -> Told {
+        match done {
+            Some(Ok(Some(word))) => word.into(),
+            Some(Ok(None)) => Told::Taken,
+            Some(Err(refusal)) => Told::Refused(refusal.number()),
+            None => Told::Nothing,
+        }
     }
 }

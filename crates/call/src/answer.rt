@@ -1,19 +1,22 @@
 // What a station answers.
-ghost use Rattle.std.specs.Prelude.{◌≡◌};
+ghost use Rattle.std.specs.Prelude.{◌≡◌, MatchResult};
 ghost use Rattle.call.specs.Answers.{number_of, refusal_from};
+ghost use Rattle.call.specs.declared.answer.Answer.TheVariants.{Data, Told, Done, Refused};
 
 use bus::answer::BusRefusal;
 use mmd::refusal::MmdRefusal;
+use thiserror::Error;
 
-#[derive(Clone, Copy)]
+#[derive(Clone, Copy, PartialEq, Eq, Debug, Error)]
 pub enum CallRefusal {
-    // port, device or line above 31, watcher above 7, entry not listed, counter or bit above 15
+    #[error("port, device or line above 31, watcher above 7, entry not listed, counter or bit above 15")]
     OutOfRange,
-    // no slot has the port
+    #[error("no slot has the port")]
     NoPort,
-    // the port is there, the device is not
+    #[error("the port has no such device")]
     NoDevice,
     // the MMD refuses
+    #[error(transparent)]
     Mmd(MmdRefusal),
 }
 
@@ -45,7 +48,7 @@ impl From<BusRefusal> for CallRefusal {
     }
 }
 
-#[derive(Clone, Copy)]
+#[derive(Clone, Copy, PartialEq, Eq, Debug)]
 pub enum Answer {
     // a plain read: the register's 16 bits
     Data(u16),
@@ -53,4 +56,51 @@ pub enum Answer {
     Told(u32),
     Done,
     Refused(CallRefusal),
+}
+
+// What a plain read gives.
+impl From<u16> for Answer {
+    ghost from_gives = { λ word answer. answer ≡ Data word };
+
+    fn from(word: u16) -> Answer {
+        Answer::Data(word)
+    }
+}
+
+// What a watch read gives.
+impl From<u32> for Answer {
+    ghost from_gives = { λ word answer. answer ≡ Told word };
+
+    fn from(word: u32) -> Answer {
+        Answer::Told(word)
+    }
+}
+
+// What every other call gives.
+impl From<()> for Answer {
+    ghost from_gives = { λ _ answer. answer ≡ Done };
+
+    fn from(_done: ()) -> Answer {
+        Answer::Done
+    }
+}
+
+impl From<CallRefusal> for Answer {
+    ghost from_gives = { λ refusal answer. answer ≡ Refused refusal };
+
+    fn from(refusal: CallRefusal) -> Answer {
+        Answer::Refused(refusal)
+    }
+}
+
+// What a call gives, or its refusal.
+impl<T: Into<Answer>> From<Result<T, CallRefusal>> for Answer {
+    ghost from_gives = { λ given answer. MatchResult given (λ value. T.Into.converts value answer) (λ refusal. answer ≡ Refused refusal) };
+
+    fn from(given: Result<T, CallRefusal>) -> Answer {
+        match given {
+            Ok(value) => value.into(),
+            Err(refusal) => refusal.into(),
+        }
+    }
 }

@@ -2,7 +2,7 @@
 use frame::address::MmdAddress;
 
 // What is asked of the MMD at an address.
-#[derive(Clone, Copy)]
+#[derive(Clone, Copy, PartialEq, Eq, Debug)]
 pub enum Request {
     // a plain read
     Read { register: u16 },
@@ -15,7 +15,7 @@ pub enum Request {
     Reset,
 }
 
-#[derive(Clone, Copy)]
+#[derive(Clone, Copy, PartialEq, Eq, Debug)]
 pub enum Call {
     // a watcher looks at an entry of the watch list
     WatchRead {

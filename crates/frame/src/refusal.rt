@@ -1,15 +1,17 @@
-// Why a frame word is refused.
+// Why a frame word is refused. A refusal's number on the card is its discriminant.
 ghost use Rattle.std.specs.Prelude.{◌≡◌};
 ghost use Rattle.frame.specs.Numbers.{number_of};
 
-#[derive(Clone, Copy, PartialEq, Eq, Debug)]
+use thiserror::Error;
+
+#[derive(Clone, Copy, PartialEq, Eq, Debug, Error)]
 pub enum FrameRefusal {
-    // the start of frame is not 00
-    Start,
-    // the turnaround of an address or write frame is not 10
-    Turnaround,
-    // a port or device address above 31
-    Address,
+    #[error("start of frame is not 00")]
+    Start = 1,
+    #[error("turnaround of an address or write frame is not 10")]
+    Turnaround = 2,
+    #[error("port or device above 31")]
+    Address = 5,
 }
 
 impl FrameRefusal {
@@ -17,10 +19,6 @@ impl FrameRefusal {
     pub fn number(self) -> u8
         ensures { result ≡ number_of self }
     {
-        match self {
-            FrameRefusal::Start => 1,
-            FrameRefusal::Turnaround => 2,
-            FrameRefusal::Address => 5,
-        }
+        self as u8
     }
 }

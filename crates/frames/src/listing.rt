@@ -4,14 +4,14 @@ ghost use Rattle.frames.specs.Listings.{ended_by, after_byte, unended};
 
 use crate::scan::{Line, Scan};
 
-#[derive(Clone, Copy)]
+#[derive(Clone, Copy, PartialEq, Eq, Debug)]
 pub struct NumberedLine {
     pub number: u64,
     pub line: Line,
 }
 
 // Where a listing stands in its input.
-#[derive(Clone, Copy)]
+#[derive(Clone, Copy, PartialEq, Eq, Debug)]
 pub struct Listing {
     number: u64,
     scan: Scan,

@@ -4,40 +4,28 @@
 
 mod listing;
 mod scan;
-mod show;
 
 use anyhow::anyhow;
 use bank::bank::Bank;
-use bus::answer::{BusAnswer, BusRefusal};
 use bus::bus::Bus;
 use card::card::card_bank;
 use frame::word::split;
 use listing::{Listing, NumberedLine};
 use scan::Line;
-use show::{AnswerText, FrameText};
 use std::io;
-use std::io::{BufWriter, Read, Write};
+use std::io::{BufReader, BufWriter, Read, Write};
 
 const CHUNK: usize = 65536;
 
 fn main(rt: HostRuntime) -> anyhow::Result<()> {
-    let mut input = rt.stdin();
+    let input = BufReader::with_capacity(rt.alloc(), CHUNK, rt.stdin())?;
     let mut out = BufWriter::new(rt.alloc(), rt.stdout())?;
-    let mut chunk = vec![in rt.alloc(); 0u8; CHUNK]?;
-    let Ok(bank) = card_bank(rt.alloc()) else {
-        return Err(anyhow!("no memory for the card's table"));
-    };
+    let bank = card_bank(rt.alloc()).map_err(|_| anyhow!("no memory for the card's table"))?;
     let mut bus = Bus::new(bank);
     let mut listing = Listing::new();
-    for _ in 0..u64::MAX {
-        let count = input.read(chunk.as_mut_slice())?;
-        if count == 0 {
-            break;
-        }
-        for byte in chunk.iter().take(count) {
-            if let Some(ended) = listing.take(*byte) {
-                write_line(ended, &mut bus, &mut out)?;
-            }
+    for byte in input.bytes() {
+        if let Some(ended) = listing.take(byte?) {
+            write_line(ended, &mut bus, &mut out)?;
         }
     }
     write_line(listing.last(), &mut bus, &mut out)?;
@@ -60,7 +48,7 @@ fn write_line<B: Bank, W: Write>(
 
 fn write_word<B: Bank, W: Write>(word: u32, bus: &mut Bus<B>, out: &mut W) -> io::Result<()> {
     if let Ok(frame) = split(word) {
-        writeln!(out, "{}", FrameText(frame))?;
+        writeln!(out, "{frame}")?;
     }
-    writeln!(out, "{}", AnswerText(bus.frame(word)))
+    writeln!(out, "{}", bus.frame(word))
 }

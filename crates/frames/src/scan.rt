@@ -4,7 +4,7 @@ ghost use Rattle.frames.specs.Scans.{glyph_of, next, line_of};
 ghost use Rattle.frames.specs.Lines.{HoldsWhatWasScanned};
 
 // What a line holds.
-#[derive(Clone, Copy)]
+#[derive(Clone, Copy, PartialEq, Eq, Debug)]
 pub enum Line {
     Blank,
     Word(u32),
@@ -12,7 +12,7 @@ pub enum Line {
 }
 
 // What a byte can be within a line.
-#[derive(Clone, Copy)]
+#[derive(Clone, Copy, PartialEq, Eq, Debug)]
 pub enum Glyph {
     White,
     Digit(u32),
@@ -22,7 +22,7 @@ pub enum Glyph {
 }
 
 // How far a line has come.
-#[derive(Clone, Copy)]
+#[derive(Clone, Copy, PartialEq, Eq, Debug)]
 pub enum Scan {
     // white space, or nothing
     Blank,

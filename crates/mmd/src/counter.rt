@@ -1,7 +1,7 @@
 // A counter of events, with the copy that a long counter holds of it.
 ghost use Rattle.std.specs.Prelude.{◌≡◌, ◌+◌, min};
 
-#[derive(Clone, Copy)]
+#[derive(Clone, Copy, PartialEq, Eq, Debug)]
 pub struct Counter {
     pub value: u32,
     pub held: u32,

@@ -1,13 +1,17 @@
-// Why an MMD refuses a call.
+// Why an MMD refuses a call. A refusal's number on the card is its discriminant.
 ghost use Rattle.std.specs.Prelude.{◌≡◌};
 ghost use Rattle.mmd.specs.Refusals.{number_of};
 
-#[derive(Clone, Copy, PartialEq, Eq, Debug)]
+use thiserror::Error;
+
+#[derive(Clone, Copy, PartialEq, Eq, Debug, Error)]
 pub enum MmdRefusal {
-    // a count for a counter number that has no field
-    NoField,
-    // a finish at a bit that is not self-clearing
-    NotSelfClearing,
+    // of a count
+    #[error("the counter has no field")]
+    NoField = 6,
+    // of a finish
+    #[error("the bit is not self-clearing")]
+    NotSelfClearing = 7,
 }
 
 impl MmdRefusal {
@@ -15,9 +19,6 @@ impl MmdRefusal {
     pub fn number(self) -> u8
         ensures { result ≡ number_of self }
     {
-        match self {
-            MmdRefusal::NoField => 6,
-            MmdRefusal::NotSelfClearing => 7,
-        }
+        self as u8
     }
 }

@@ -1,7 +1,7 @@
 // A trace of calls from standard input, replayed on the ring card: an answer line for each record.
 #![tactic(auto)]
 
-use anyhow::anyhow;
+use anyhow::{Context, anyhow};
 use card::card::{WATCH_LIST, card_bank};
 use station::station::Station;
 use std::io::{Read, Write};
@@ -9,36 +9,28 @@ use trace::part::{Part, replay_part};
 
 // The bytes of a part of the input, and room for the lines of all its records: a record has three bytes or more, and a
 // line eleven or fewer.
-const INPUT: usize = 65536;
+const INPUT: u64 = 65536;
 
 const LINES: usize = 262144;
 
 fn main(rt: HostRuntime) -> anyhow::Result<()> {
-    let Ok(bank) = card_bank(rt.alloc()) else {
-        return Err(anyhow!("no memory for the card's table"));
-    };
-    let Ok(mut station) = Station::new(rt.alloc(), bank, &WATCH_LIST) else {
-        return Err(anyhow!("no memory for the watch list"));
-    };
+    let bank = card_bank(rt.alloc()).map_err(|_| anyhow!("no memory for the card's table"))?;
+    let station = Station::new(rt.alloc(), bank, &WATCH_LIST).map_err(|refused| refused.why);
+    let mut station = station.context("no memory for the watch list")?;
     let mut input = rt.stdin();
     let mut out = rt.stdout();
-    let mut bytes = vec![in rt.alloc(); 0u8; INPUT]?;
+    let mut bytes = Vec::new(rt.alloc());
     let mut lines = vec![in rt.alloc(); 0u8; LINES]?;
-    let mut filled = 0;
+    // nothing says that an input ends, and a loop must
     for _ in 0..u64::MAX {
-        let count = input.read(&mut bytes[filled..])?;
-        filled += count;
-        let Part {
-            taken,
-            written,
-            over,
-        } = replay_part(&mut station, &bytes[0..filled], count == 0, &mut lines);
-        out.write_all(&lines[0..written])?;
-        if over {
+        let count = input.by_ref().take(INPUT).read_to_end(&mut bytes)?;
+        let Part { written, rest } = replay_part(&mut station, &bytes, count == 0, &mut lines);
+        out.write_all(&lines[..written])?;
+        let Some(rest) = rest else {
             return Ok(());
-        }
-        bytes.copy_within(taken..filled, 0);
-        filled -= taken;
+        };
+        let worked = bytes.len() - rest.len();
+        bytes.drain(..worked);
     }
     Ok(())
 }

@@ -17,10 +17,7 @@ fn hears(watched: &Watched, address: MmdAddress, register: u16) -> bool
 pub(crate) fn hearing(watched: &[Watched], address: MmdAddress, register: u16) -> Option<usize>
     ensures { result ≡ hearing address register watched.now }
 {
-    for (index, entry) in watched.iter().enumerate() {
-        if hears(entry, address, register) {
-            return Some(index);
-        }
-    }
-    None
+    watched
+        .iter()
+        .position(|entry| hears(entry, address, register))
 }

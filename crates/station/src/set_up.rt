@@ -1,15 +1,18 @@
 // Setting a station up.
-ghost use Rattle.std.specs.Prelude.{◌≡◌, Ok};
+ghost use Rattle.std.specs.Prelude.{◌≡◌, map, true, Ok, IfOk, IfErr};
 ghost use Rattle.watch_list.specs.Checks.{check_of};
-ghost use Rattle.station.specs.SetUps.{SetsUp};
+ghost use Rattle.watch_list.specs.Watches.{new_watched};
+ghost use Rattle.station.specs.Named.{all_named};
+ghost use Rattle.station.specs.SetUps.{RefusedFor, SetsUp};
 
-use crate::refused::{SetUpRefused, Why};
+use crate::refused::{SetUpRefused, Why, with_bank};
 use crate::station::Station;
 use bank::bank::Bank;
 use bus::bus::Bus;
 use std::alloc::Global;
 use watch_list::check::check;
 use watch_list::entry::Entry;
+use watch_list::watch::Watched;
 use watch_list::watched::new_watch;
 
 impl<B: Bank> Station<B> {
@@ -17,33 +20,31 @@ impl<B: Bank> Station<B> {
     pub fn new(heap: Global, bank: B, entries: &[Entry]) -> Result<Station<B>, SetUpRefused<B>>
         ensures { SetsUp B.Bank.slots bank entries.now result }
     {
-        match check(entries) {
-            Ok(()) => Station::listed(heap, bank, entries),
-            Err(fault) => Err(SetUpRefused {
-                bank,
-                why: Why::Listed(fault),
-            }),
-        }
+        let (bank, watched) = with_bank(bank, listed(heap, entries))?;
+        Ok(Station::over(bank, watched))
     }
 
-    // The same for a list that passed its check.
-    pub(crate) fn listed(
-        heap: Global,
-        bank: B,
-        entries: &[Entry],
-    ) -> Result<Station<B>, SetUpRefused<B>>
-        requires { check_of entries.now ≡ Ok tt }
-        ensures { SetsUp B.Bank.slots bank entries.now result }
+    // A station over a bank and the entries of a list, with no frame sent.
+    pub(crate) fn over(bank: B, watched: Vec<Watched>) -> Station<B>
+        requires { all_named watched.items ≡ true }
+        ensures bank { result.bus.bank ≡ bank }
+        ensures frames { result.bus.frames ≡ 0 }
+        ensures watched { result.watched ≡ watched }
     {
-        match new_watch(heap, entries) {
-            Ok(watched) => Ok(Station {
-                bus: Bus::new(bank),
-                watched,
-            }),
-            Err(_) => Err(SetUpRefused {
-                bank,
-                why: Why::Memory,
-            }),
+        Station {
+            bus: Bus::new(bank),
+            watched,
         }
     }
+}
+
+// The entries of a list that passes its check, with nobody owed anything yet.
+pub(crate) fn listed(heap: Global, entries: &[Entry]) -> Result<Vec<Watched>, Why>
+    ensures passed { IfOk result (λ v. check_of entries.now ≡ Ok tt) }
+    ensures watched { IfOk result (λ v. v.items ≡ map new_watched entries.now) }
+    ensures named { IfOk result (λ v. all_named v.items ≡ true) }
+    ensures refused { IfErr result (RefusedFor entries.now) }
+{
+    check(entries)?;
+    Ok(new_watch(heap, entries)?)
 }

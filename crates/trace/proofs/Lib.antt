@@ -1,3 +1,4 @@
 pub mod Inputs
 pub mod Parts
 pub mod Stepped
+pub mod Worked

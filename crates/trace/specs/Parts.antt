@@ -1,5 +1,5 @@
 -- What working a part of a trace comes to, whatever follows the part.
-use Rattle.std.specs.Prelude.{◌≡◌, ℕ, ◌-◌, Bool, true, false, List, [], ◌++◌, length, take, Option}
+use Rattle.std.specs.Prelude.{◌≡◌, ℕ, Bool, true, false, List, [], ◌++◌, take, Option, MatchOption}
 use Rattle.call.specs.declared.call.Call.{Call}
 use Rattle.promise.specs.Rules.{State, after_calls, answers_of}
 use Rattle.trace_format.specs.declared.refusal.TraceRefusal.{TraceRefusal}
@@ -33,10 +33,7 @@ pub record WorkedToTheEnd (m : State) (input : List ℕ) (last : Bool) (now_m : 
   pub whole_text : text ≡ text_of (answers_of m calls) stop
   pub all : (future : List ℕ) → Follows last future → reading_of (input ++ future) ≡ record { calls = calls; stop = stop }
 
-abbrev pub WorkedPartAs : Bool → State → List ℕ → Bool → State → ℕ → List ℕ → Type 0
-WorkedPartAs true m input last now_m taken text = WorkedToTheEnd m input last now_m text
-WorkedPartAs false m input last now_m taken text = (rest : List ℕ) × (taken ≡ length input - length rest) × WorkedSoFar m input last now_m rest text
-
--- the text stands at the start of the buffer
+-- the trace is over, or a rest of the input is left; the text stands at the start of the buffer
 abbrev pub WorkedPart : State → List ℕ → Bool → Part → State → List ℕ → Type 0
-WorkedPart m input last r now_m buffer = WorkedPartAs r.over m input last now_m r.taken (take r.written buffer)
+WorkedPart m input last r now_m buffer =
+    MatchOption r.rest (WorkedToTheEnd m input last now_m (take r.written buffer)) (λ rest. WorkedSoFar m input last now_m rest.now (take r.written buffer))

@@ -11,13 +11,12 @@ use trace_format::line::LINE_MAX;
 // The length of the longest record.
 const RECORD_MAX: usize = 7;
 
-#[derive(Clone, Copy)]
-pub struct Part {
-    // how much of the input was worked, and how much of the buffer was written
-    pub taken: usize,
+#[derive(Clone, Copy, PartialEq, Eq, Debug)]
+pub struct Part<'a> {
+    // how much of the buffer was written
     pub written: usize,
-    // the trace is over: it has stopped, or its input is at its end
-    pub over: bool,
+    // what is left of the input; none once the trace is over: it has stopped, or its input is at its end
+    pub rest: Option<&'a [u8]>,
 }
 
 // The next record is there whole, or nothing comes after it.
@@ -28,27 +27,21 @@ fn is_whole(rest: &[u8], last: bool) -> bool
 }
 
 // Works records until the input, the buffer or the trace is at its end. The last part has nothing after it.
-pub fn replay_part<B: Bank>(
+pub fn replay_part<'a, B: Bank>(
     station: &mut Station<B>,
-    input: &[u8],
+    input: &'a [u8],
     last: bool,
     lines: &mut [u8],
-) -> Part
-    ensures within { (result.taken ≤ length input.now) × (result.written ≤ length lines.new) }
+) -> Part<'a>
+    ensures within { result.written ≤ length lines.new }
     ensures worked { WorkedPart (state_of B.Bank.slots station.old) input.now last result (state_of B.Bank.slots station.new) lines.new }
 {
     let mut rest = input;
     let mut written = 0;
     while is_whole(rest, last) {
-        let progress = match step(station, rest, &mut lines[written..]) {
-            Ok(progress) => progress,
-            Err(_) => {
-                return Part {
-                    taken: input.len() - rest.len(),
-                    written,
-                    over: false,
-                };
-            }
+        let Ok(progress) = step(station, rest, &mut lines[written..]) else {
+            // some line would not fit what is left of the buffer
+            break;
         };
         match progress {
             Progress::Answered { length, rest: more } => {
@@ -57,23 +50,20 @@ pub fn replay_part<B: Bank>(
             }
             Progress::Stopped { length } => {
                 return Part {
-                    taken: input.len() - rest.len(),
                     written: written + length,
-                    over: true,
+                    rest: None,
                 };
             }
             Progress::End => {
                 return Part {
-                    taken: input.len() - rest.len(),
                     written,
-                    over: true,
+                    rest: None,
                 };
             }
         }
     }
     Part {
-        taken: input.len() - rest.len(),
         written,
-        over: false,
+        rest: Some(rest),
     }
 }

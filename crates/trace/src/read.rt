@@ -19,20 +19,15 @@ pub fn read_calls(heap: Global, input: &[u8]) -> Result<Calls, AllocError>
 {
     let mut calls = Vec::new(heap);
     let mut rest = input;
-    loop {
-        let next = match decode(rest) {
-            Ok(next) => next,
-            Err(refusal) => {
-                return Ok(Calls {
-                    calls,
-                    stop: Some(refusal),
-                });
+    let stop = loop {
+        match decode(rest) {
+            Ok(Some(Record { call, rest: more })) => {
+                calls.push(call)?;
+                rest = more;
             }
-        };
-        let Some(Record { call, rest: more }) = next else {
-            return Ok(Calls { calls, stop: None });
-        };
-        calls.push(call)?;
-        rest = more;
-    }
+            Ok(None) => break None,
+            Err(refusal) => break Some(refusal),
+        }
+    };
+    Ok(Calls { calls, stop })
 }

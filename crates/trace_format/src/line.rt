@@ -11,7 +11,7 @@ use call::answer::Answer;
 // The length of the longest line.
 pub const LINE_MAX: usize = 11;
 
-#[derive(Clone, Copy)]
+#[derive(Clone, Copy, PartialEq, Eq, Debug)]
 pub enum Line {
     // a record's call was made, and this came back
     Answer(Answer),

@@ -1,13 +1,15 @@
-// Why a trace ends, and why a line is not written.
+// Why a trace ends, and why a line is not written. A refusal's number on the card is its discriminant.
 ghost use Rattle.std.specs.Prelude.{◌≡◌};
 ghost use Rattle.trace_format.specs.Numbers.{buffer_number, trace_number};
 
-#[derive(Clone, Copy)]
+use thiserror::Error;
+
+#[derive(Clone, Copy, PartialEq, Eq, Debug, Error)]
 pub enum TraceRefusal {
-    // the record's map is none of the seven
-    UnlistedMap,
-    // fewer bytes are left than the fields of the map take
-    CutRecord,
+    #[error("the record's map is not listed")]
+    UnlistedMap = 30,
+    #[error("fewer bytes are left than the fields of the map take")]
+    CutRecord = 31,
 }
 
 impl TraceRefusal {
@@ -15,17 +17,14 @@ impl TraceRefusal {
     pub fn number(self) -> u8
         ensures { result ≡ trace_number self }
     {
-        match self {
-            TraceRefusal::UnlistedMap => 30,
-            TraceRefusal::CutRecord => 31,
-        }
+        self as u8
     }
 }
 
-#[derive(Clone, Copy)]
+#[derive(Clone, Copy, PartialEq, Eq, Debug, Error)]
 pub enum BufferRefusal {
-    // the longest line would not fit the buffer
-    Short,
+    #[error("the longest line does not fit the buffer")]
+    Short = 32,
 }
 
 impl BufferRefusal {
@@ -33,8 +32,6 @@ impl BufferRefusal {
     pub fn number(self) -> u8
         ensures { result ≡ buffer_number self }
     {
-        match self {
-            BufferRefusal::Short => 32,
-        }
+        self as u8
     }
 }

@@ -1,5 +1,6 @@
 -- Which watch lists are refused: too many entries first, then entry by entry from the first, each by the rules in their order.
-use Rattle.std.specs.Prelude.{◌≡◌, ℕ, Bool, false, if◌then◌else◌, not, ◌&&◌, ◌||◌, List, [], ◌∷◌, ◌++◌, length, Some, None, Ok, Err, Option, Result, ◌==◌, bit_and, nat_lt}
+use Rattle.std.specs.Prelude.{◌≡◌, ℕ, Bool, if◌then◌else◌, not, ◌&&◌, ◌||◌, List, [], ◌∷◌, ◌++◌, length, Some, None, Ok, Err, Option, Result, ◌==◌, bit_and, nat_lt}
+use Rattle.std.specs.List.{list_any}
 use Rattle.frame.specs.Addresses.{addressable}
 use Rattle.watch_list.specs.Entries.{address_of, is_of, names}
 use Rattle.watch_list.specs.Lists.{WellListed}
@@ -31,8 +32,7 @@ clashes e f = is_of (address_of e) f && shares_register e f
 
 -- an earlier entry of that MMD names one of its registers
 abbrev pub is_taken : List Entry → Entry → Bool
-is_taken [] e = false
-is_taken (f ∷ earlier) e = clashes e f || is_taken earlier e
+is_taken earlier e = list_any (clashes e) earlier
 
 -- the first rule that an entry breaks after these
 abbrev pub entry_fault : List Entry → Entry → Option ListFault

@@ -50,12 +50,7 @@ fn clashes(entry: &Entry, other: &Entry) -> bool
 fn is_taken(earlier: &[Entry], entry: &Entry) -> bool
     ensures { result ≡ is_taken earlier.now entry.now }
 {
-    for other in earlier {
-        if clashes(entry, other) {
-            return true;
-        }
-    }
-    false
+    earlier.iter().any(|other| clashes(entry, other))
 }
 
 // The first rule that an entry breaks, behind the earlier ones.
@@ -88,6 +83,7 @@ pub fn check(entries: &[Entry]) -> Result<(), ListFaultAt>
             place: MOST_ENTRIES,
         });
     }
+    // by the index, which is the place of the fault and bounds the earlier entries
     for (place, entry) in entries.iter().enumerate() {
         if let Some(fault) = entry_fault(&entries[..place], entry) {
             return Err(ListFaultAt { fault, place });

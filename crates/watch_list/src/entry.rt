@@ -6,7 +6,7 @@ ghost use Rattle.watch_list.specs.Watches.{latch_told};
 use frame::address::MmdAddress;
 use joining::latch::LatchWord;
 
-#[derive(Clone, Copy)]
+#[derive(Clone, Copy, PartialEq, Eq, Debug)]
 pub struct LatchEntry {
     pub address: MmdAddress,
     pub register: u16,
@@ -25,7 +25,7 @@ impl LatchEntry {
     }
 }
 
-#[derive(Clone, Copy)]
+#[derive(Clone, Copy, PartialEq, Eq, Debug)]
 pub struct CountEntry {
     pub address: MmdAddress,
     // the registers of the high half and of the low half
@@ -33,7 +33,7 @@ pub struct CountEntry {
     pub low: u16,
 }
 
-#[derive(Clone, Copy)]
+#[derive(Clone, Copy, PartialEq, Eq, Debug)]
 pub enum Entry {
     Latch(LatchEntry),
     Count(CountEntry),

@@ -1,15 +1,17 @@
-// What can be wrong with a watch list.
+// What can be wrong with a watch list. A fault's number on the card is its discriminant.
 ghost use Rattle.std.specs.Prelude.{◌≡◌};
 ghost use Rattle.watch_list.specs.Checks.{number_of};
 
-#[derive(Clone, Copy)]
+use thiserror::Error;
+
+#[derive(Clone, Copy, PartialEq, Eq, Debug, Error)]
 pub enum ListFault {
-    // more than 16 entries
-    TooManyEntries,
-    // port or device above 31, masks that share a bit, or the halves of a counter in one register
-    Malformed,
-    // an earlier entry of that MMD names one of the registers
-    RegisterTaken,
+    #[error("more than 16 entries")]
+    TooManyEntries = 20,
+    #[error("port or device above 31, a bit in both masks, or one register for both halves")]
+    Malformed = 21,
+    #[error("an earlier entry of that MMD names one of the registers")]
+    RegisterTaken = 22,
 }
 
 impl ListFault {
@@ -17,16 +19,13 @@ impl ListFault {
     pub fn number(self) -> u8
         ensures { result ≡ number_of self }
     {
-        match self {
-            ListFault::TooManyEntries => 20,
-            ListFault::Malformed => 21,
-            ListFault::RegisterTaken => 22,
-        }
+        self as u8
     }
 }
 
 // A fault, and the place of the first entry too many or at fault, from 0.
-#[derive(Clone, Copy)]
+#[derive(Clone, Copy, PartialEq, Eq, Debug, Error)]
+#[error("entry {place}: {fault}")]
 pub struct ListFaultAt {
     pub fault: ListFault,
     pub place: usize,

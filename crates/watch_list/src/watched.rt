@@ -64,9 +64,8 @@ impl Watched {
 pub fn new_watch(heap: Global, entries: &[Entry]) -> Result<Vec<Watched>, AllocError>
     ensures { IfOk result (λ v. v.items ≡ map new_watched entries.now) }
 {
-    let mut watched = Vec::with_capacity(heap, entries.len())?;
-    for entry in entries {
-        watched.push_reserved(Watched::new(*entry));
-    }
-    Ok(watched)
+    entries
+        .iter()
+        .map(|entry| Watched::new(*entry))
+        .collect(heap)
 }

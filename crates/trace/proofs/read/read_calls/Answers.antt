@@ -1,41 +1,44 @@
-use Rattle.std.proofs.Common.{◌≡◌, List, [], ◌∷◌, ◌++◌, Some, Ok, vec_items, sym, ap, ◌∙◌, append_assoc, arith}
+use Rattle.std.proofs.Common.{rules, ◌≡◌, List, [], ◌∷◌, ◌++◌, Some, None, Ok, Err, vec_items, sym, ap, ◌∙◌, append_assoc, arith}
 use Rattle.std.proofs.lemmas.List.{append-nil}
 use Rattle.call.specs.declared.call.Call.{Call}
-use Rattle.trace_format.specs.Records.{decode_of, decoded}
+use Rattle.trace_format.specs.Records.{Taken, decode_of}
 use Rattle.trace_format.proofs.Decoding.{takes_some}
 use Rattle.trace.specs.Traces.{Reading, reading_of}
 use Rattle.trace.proofs.Inputs.{reading_more, reading_ends, reading_stops}
 use Rattle.trace.proofs.read.read_calls.Goals as goal
+use Rattle.trace.proofs.read.read_calls.Goals.{in-Ok-None, in-Err}
 
-took : (c : goal.In_ok-push) → Ok (Some (record { call = c.in-Some.field-0.call; rest = c.in-Some.field-0.rest.now })) ≡ decode_of c.loop-next.rest.now
-took c = ap (λ o. decoded (Ok o)) (sym c.in-Some.is) ∙ c.in-Ok.ensures.result
-
-pub loop-next-smaller : goal.loop-next-smaller
-loop-next-smaller c =
-    let less = takes_some c.loop-next.rest.now (record { call = c.in-Some.field-0.call; rest = c.in-Some.field-0.rest.now }) (sym (took c)) in
+pub loop-call-smaller : goal.loop-call-smaller
+loop-call-smaller c =
+    let taken : Taken = record { call = c.in-Ok-Some.field-0-0.call; rest = c.in-Ok-Some.field-0-0.rest.now } in
+    let took : Ok (Some taken) ≡ decode_of c.loop-call.rest.now = search rules in
+    let less = takes_some c.loop-call.rest.now taken (sym took) in
     omega arith
 
-pub loop-next-preserved : goal.loop-next-preserved
-loop-next-preserved c =
-    let step = reading_more c.loop-next.rest.now (record { call = c.in-Some.field-0.call; rest = c.in-Some.field-0.rest.now }) (took c) in
-    let more = reading_of c.in-Some.field-0.rest.now in
-    let pushed = c.in_ok-push.ensures.items in (
-      c.loop-next.invariant.0 ∙ ap (λ (r : Reading). vec_items c.loop-next.calls ++ r.calls) step
-          ∙ sym (append_assoc (vec_items c.loop-next.calls) (c.in-Some.field-0.call ∷ []) more.calls) ∙ ap (λ (l : List Call). l ++ more.calls) (sym pushed),
-      c.loop-next.invariant.1 ∙ ap (λ (r : Reading). r.stop) step,
+pub loop-call-preserved : goal.loop-call-preserved
+loop-call-preserved c =
+    let taken : Taken = record { call = c.in-Ok-Some.field-0-0.call; rest = c.in-Ok-Some.field-0-0.rest.now } in
+    let took : Ok (Some taken) ≡ decode_of c.loop-call.rest.now = search rules in
+    let step = reading_more c.loop-call.rest.now taken took in
+    let more = reading_of taken.rest in (
+      c.loop-call.invariant.0 ∙ ap (λ (r : Reading). vec_items c.loop-call.calls ++ r.calls) step
+          ∙ sym (append_assoc (vec_items c.loop-call.calls) (taken.call ∷ []) more.calls) ∙ ap (λ (l : List Call). l ++ more.calls) (search rules),
+      c.loop-call.invariant.1 ∙ ap (λ (r : Reading). r.stop) step,
     )
 
-pub returns-in-Err : goal.returns-in-Err
-returns-in-Err c =
-    let step = reading_stops c.loop-next.rest.now c.in-Err.refusal c.in-Err.ensures.result in (
-      sym (c.loop-next.invariant.0 ∙ ap (λ (r : Reading). vec_items c.loop-next.calls ++ r.calls) step ∙ append-nil (vec_items c.loop-next.calls)),
-      sym (c.loop-next.invariant.1 ∙ ap (λ (r : Reading). r.stop) step),
-    )
-
-pub returns-in_default : goal.returns-in_default
-returns-in_default c =
-    let ended = ap (λ o. decoded (Ok o)) (sym c.in_default.is) ∙ c.in-Ok.ensures.result in
-    let step = reading_ends c.loop-next.rest.now ended in (
-      sym (c.loop-next.invariant.0 ∙ ap (λ (r : Reading). vec_items c.loop-next.calls ++ r.calls) step ∙ append-nil (vec_items c.loop-next.calls)),
-      sym (c.loop-next.invariant.1 ∙ ap (λ (r : Reading). r.stop) step),
-    )
+pub returns : goal.returns
+returns c =
+    elim c.match-decode.branch [
+      | in-Ok-None w ↦
+          let ended : Ok None ≡ decode_of c.loop-call.rest.now = search rules in
+          let step = reading_ends c.loop-call.rest.now ended in (
+            sym (c.loop-call.invariant.0 ∙ ap (λ (r : Reading). vec_items c.loop-call.calls ++ r.calls) step ∙ append-nil (vec_items c.loop-call.calls)),
+            w.stop-is ∙ sym (c.loop-call.invariant.1 ∙ ap (λ (r : Reading). r.stop) step),
+          )
+      | in-Err w ↦
+          let stopped : Err w.in-Err.refusal ≡ decode_of c.loop-call.rest.now = search rules in
+          let step = reading_stops c.loop-call.rest.now w.in-Err.refusal stopped in (
+            sym (c.loop-call.invariant.0 ∙ ap (λ (r : Reading). vec_items c.loop-call.calls ++ r.calls) step ∙ append-nil (vec_items c.loop-call.calls)),
+            w.stop-is ∙ sym (c.loop-call.invariant.1 ∙ ap (λ (r : Reading). r.stop) step),
+          )
+    ]
