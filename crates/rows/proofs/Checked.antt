@@ -6,7 +6,7 @@ use Rattle.rows.specs.Checks.{fault_of, first_fault, first_partnerless, follows,
 use Rattle.rows.specs.Rows.{content_of, span_fits}
 use Rattle.rows.specs.Slots.{nowhere}
 use Rattle.rows.specs.Orders.{in_order}
-use Rattle.rows.specs.declared.fault.FaultAt.{FaultAt}
+use Rattle.fault_at.specs.declared.FaultAt.{FaultAt}
 use Rattle.rows.specs.declared.fault.TableFault.{TableFault}
 use Rattle.rows.specs.declared.fault.TableFault.TheVariants.{TooManyRows, Partner}
 use Rattle.rows.specs.declared.row.Row.{Row}
@@ -94,12 +94,12 @@ pub fault_too_many : (rows : List Row) → true ≡ ltb 64 (length rows) → fau
 unfolding fault_of
 fault_too_many rows many = cc
 
-pub fault_of_rows : (rows : List Row) (f : FaultAt) → false ≡ ltb 64 (length rows) → first_fault [] rows ≡ Some f → fault_of rows ≡ Some f
+pub fault_of_rows : (rows : List Row) (f : FaultAt TableFault) → false ≡ ltb 64 (length rows) → first_fault [] rows ≡ Some f → fault_of rows ≡ Some f
 unfolding fault_of
 fault_of_rows rows f few found = cc
 
 -- what the second walk finds by the slots of rows that all pass
-pub fault_by_slots : (rows : List Row) (slots : List CounterSlot) (f : Option FaultAt) → false ≡ ltb 64 (length rows) → (first_fault [] rows ≡ None) × SlotsOf rows slots
+pub fault_by_slots : (rows : List Row) (slots : List CounterSlot) (f : Option (FaultAt TableFault)) → false ≡ ltb 64 (length rows) → (first_fault [] rows ≡ None) × SlotsOf rows slots
     → f ≡ first_partnerless (places_in slots) 0 rows → fault_of rows ≡ f
 unfolding fault_of
 fault_by_slots rows slots f few placed found =

@@ -8,7 +8,7 @@ use Rattle.rows.specs.Checks.{fault_of, first_fault, first_partnerless, follows,
 use Rattle.rows.specs.Layouts.{FormsLayout, NoCounterTwice, Pairwise, WellFormed}
 use Rattle.rows.specs.Rows.{content_of, span_fits}
 use Rattle.rows.specs.Orders.{rising, rising_after}
-use Rattle.rows.specs.declared.fault.FaultAt.{FaultAt}
+use Rattle.fault_at.specs.declared.FaultAt.{FaultAt}
 use Rattle.rows.specs.declared.fault.TableFault.{TableFault}
 use Rattle.rows.specs.declared.row.Row.{Row}
 use Rattle.rows.specs.declared.slot.Places.{Places}
@@ -69,7 +69,7 @@ passed_at rows row rest all =
     let order = (and_parts (rising rows) (follows rows row && rising_after row rest) (sym (rising_at rows row rest) ∙ all.rises)).1 in
     (all_at WellFormed rows row rest all.well_formed, (and_parts (follows rows row) (rising_after row rest) order).0, taken_from_twice rows row (pairwise_at NoCounterTwice rows row rest all.no_counter_twice))
 
-neither_fault : (here : Option TableFault) (place : ℕ) (behind : Option FaultAt) → or_else (located here place) behind ≡ None → (here ≡ None) × (behind ≡ None)
+neither_fault : (here : Option TableFault) (place : ℕ) (behind : Option (FaultAt TableFault)) → or_else (located here place) behind ≡ None → (here ≡ None) × (behind ≡ None)
 neither_fault here place behind free = grind (arith, nat_tests)
 
 passed_all : (earlier rest : List Row) → first_fault earlier rest ≡ None → Passed earlier → Passed (earlier ++ rest)

@@ -4,7 +4,7 @@ use Rattle.mmd.specs.Meaning.{Layout}
 use Rattle.rows.specs.Rows.{cell_of, content_of, span_fits}
 use Rattle.rows.specs.Slots.{empty_slot, field_of, nowhere}
 use Rattle.rows.specs.Orders.{in_order}
-use Rattle.rows.specs.declared.fault.FaultAt.{FaultAt}
+use Rattle.fault_at.specs.declared.FaultAt.{FaultAt}
 use Rattle.rows.specs.declared.fault.TableFault.{TableFault}
 use Rattle.rows.specs.declared.fault.TableFault.TheVariants.{TooManyRows, Kind, Span, Number, Order, Counter, Partner}
 use Rattle.rows.specs.declared.row.Content.{Content}
@@ -101,12 +101,12 @@ row_fault earlier row =
 
 -- ---- the tests of a table
 
-abbrev pub located : Option TableFault → ℕ → Option FaultAt
+abbrev pub located : Option TableFault → ℕ → Option (FaultAt TableFault)
 located None place = None
 located (Some f) place = Some (record { fault = f; place = place })
 
 -- the first row at fault, of those behind the earlier ones
-abbrev pub first_fault : List Row → List Row → Option FaultAt
+abbrev pub first_fault : List Row → List Row → Option (FaultAt TableFault)
 first_fault earlier [] = None
 first_fault earlier (row ∷ rest) = or_else (located (row_fault earlier row) (length earlier)) (first_fault (earlier ++ (row ∷ [])) rest)
 
@@ -123,13 +123,13 @@ partnerless_as (HighHalf k) p = not (is_some (p k).low)
 partnerless_as (LowHalf k) p = not (is_some (p k).high)
 partnerless_as Unknown p = false
 
-abbrev pub first_partnerless : (ℕ → Places) → ℕ → List Row → Option FaultAt
+abbrev pub first_partnerless : (ℕ → Places) → ℕ → List Row → Option (FaultAt TableFault)
 first_partnerless p place [] = None
 first_partnerless p place (row ∷ rest) =
     cond (partnerless_as (content_of row) p) (Some (record { fault = Partner; place = place })) (first_partnerless p (place + 1) rest)
 
 -- what a table is refused for: 10, then 11 to 15 row by row, then 16
-unfoldable pub fault_of : List Row → Option FaultAt
+unfoldable pub fault_of : List Row → Option (FaultAt TableFault)
 fault_of rows =
     cond (nat_lt 64 (length rows)) (Some (record { fault = TooManyRows; place = 64 }))
     (or_else (first_fault [] rows) (first_partnerless (places_of rows) 0 rows))
@@ -151,10 +151,10 @@ Joins row before after =
     (length after ≡ length before) × ((k : ℕ) → slice_index_or after k empty_slot ≡ with_place (slice_index_or before k empty_slot) (place_in row k))
 
 -- what the check of rows one after another gives, and what the whole check gives
-abbrev pub Placed : List Row → Result (List CounterSlot) FaultAt → Type 0
+abbrev pub Placed : List Row → Result (List CounterSlot) (FaultAt TableFault) → Type 0
 Placed rows (Ok slots) = (first_fault [] rows ≡ None) × SlotsOf rows slots
 Placed rows (Err f) = first_fault [] rows ≡ Some f
 
-abbrev pub Checked : List Row → Result (List CounterSlot) FaultAt → Type 0
+abbrev pub Checked : List Row → Result (List CounterSlot) (FaultAt TableFault) → Type 0
 Checked rows (Ok slots) = (fault_of rows ≡ None) × SlotsOf rows slots
 Checked rows (Err f) = fault_of rows ≡ Some f

@@ -4,9 +4,10 @@ ghost use Rattle.rows.specs.Checks.{first_partnerless, follows, kind_listed, num
 ghost use Rattle.rows.specs.Slots.{empty_slot};
 ghost use Rattle.rows.specs.Rows.{content_of, one_bit, span_fits, whole_register};
 
-use crate::fault::{FaultAt, TableFault};
+use crate::fault::TableFault;
 use crate::row::{Content, Row};
 use crate::slot::{CounterSlot, Places, ShortPlace, slot_of};
+use fault_at::FaultAt;
 
 const MOST_ROWS: usize = 64;
 
@@ -188,7 +189,7 @@ fn note(slots: &mut [CounterSlot], row: &Row)
 }
 
 // The counters that the rows place, or the first row that breaks a rule of its own.
-fn place_all(rows: &[Row]) -> Result<[CounterSlot; COUNTERS], FaultAt>
+fn place_all(rows: &[Row]) -> Result<[CounterSlot; COUNTERS], FaultAt<TableFault>>
     ensures { Placed rows.now result }
 {
     let mut slots = [CounterSlot::EMPTY; COUNTERS];
@@ -202,7 +203,7 @@ fn place_all(rows: &[Row]) -> Result<[CounterSlot; COUNTERS], FaultAt>
 }
 
 // The first row that is a half whose other half is in no row.
-fn first_partnerless(rows: &[Row], slots: &[CounterSlot]) -> Option<FaultAt>
+fn first_partnerless(rows: &[Row], slots: &[CounterSlot]) -> Option<FaultAt<TableFault>>
     ensures { result ≡ first_partnerless (places_in slots.now) 0 rows.now }
 {
     for (place, row) in rows.iter().enumerate() {
@@ -217,7 +218,7 @@ fn first_partnerless(rows: &[Row], slots: &[CounterSlot]) -> Option<FaultAt>
 }
 
 // The counters of a table of rows, or what is wrong with it.
-pub fn check(rows: &[Row]) -> Result<[CounterSlot; COUNTERS], FaultAt>
+pub fn check(rows: &[Row]) -> Result<[CounterSlot; COUNTERS], FaultAt<TableFault>>
     ensures { Checked rows.now result }
 {
     if too_many(rows) {

@@ -3,7 +3,7 @@ ghost use Rattle.std.specs.Prelude.{◌≡◌, ◌+◌, ◌-◌, ◌≤◌};
 ghost use Rattle.rows.specs.Rows.{content_numbered, content_of, covers};
 ghost use Rattle.rows.specs.Orders.{in_order};
 
-#[derive(Clone, Copy)]
+#[derive(Clone, Copy, PartialEq, Eq, Debug)]
 pub struct Row {
     pub register: u16,
     pub high: u8,
@@ -13,7 +13,7 @@ pub struct Row {
 }
 
 // What a row puts into its span: its kind, with its number as that kind reads it.
-#[derive(Clone, Copy)]
+#[derive(Clone, Copy, PartialEq, Eq, Debug)]
 pub enum Content {
     // kind 1, with the value
     Fixed(u16),

@@ -5,7 +5,7 @@ ghost use Rattle.rows.specs.Slots.{empty_slot};
 
 use mmd::counter::Counter;
 
-#[derive(Clone, Copy)]
+#[derive(Clone, Copy, PartialEq, Eq, Debug)]
 pub struct ShortPlace {
     pub register: u16,
     pub low: u8,
@@ -13,7 +13,7 @@ pub struct ShortPlace {
 }
 
 // The rows that name a counter.
-#[derive(Clone, Copy)]
+#[derive(Clone, Copy, PartialEq, Eq, Debug)]
 pub struct Places {
     pub short: Option<ShortPlace>,
     // the registers of the halves

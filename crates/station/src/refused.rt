@@ -1,10 +1,11 @@
 // A set-up that was refused.
-use watch_list::fault::ListFaultAt;
+use fault_at::FaultAt;
+use watch_list::fault::ListFault;
 
 #[derive(Clone, Copy)]
 pub enum Why {
     // what is wrong with the watch list, and where
-    Listed(ListFaultAt),
+    Listed(FaultAt<ListFault>),
     // no memory
     Memory,
 }

@@ -10,7 +10,7 @@ use bits::{high_half, is_one, low_half, sixteen};
 use rows::row::{Content, Row};
 use rows::slot::CounterSlot;
 
-#[derive(Clone, Copy)]
+#[derive(Clone, Copy, PartialEq, Eq, Debug)]
 pub struct Entry {
     pub row: Row,
     // the bits of the span, from its lowest at place 0; places past the span mean nothing

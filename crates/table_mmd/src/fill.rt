@@ -9,22 +9,25 @@ use crate::change::Reset;
 use crate::entry::Entry;
 use crate::table::TableMmd;
 use crate::walk::Change;
+use fault_at::FaultAt;
 use rows::check::check;
-use rows::fault::FaultAt;
+use rows::fault::TableFault;
 use rows::row::Row;
 use std::alloc::{AllocError, Global};
+use thiserror::Error;
 
-#[derive(Clone, Copy)]
+#[derive(Clone, Copy, PartialEq, Eq, Debug, Error)]
 pub enum FillRefusal {
-    Faulty(FaultAt),
-    // no memory for the rows
+    #[error("{0}")]
+    Faulty(FaultAt<TableFault>),
+    #[error("no memory for the rows")]
     Memory,
 }
 
-impl From<FaultAt> for FillRefusal {
+impl From<FaultAt<TableFault>> for FillRefusal {
     ghost from_gives = { λ f r. r ≡ Faulty f };
 
-    fn from(fault: FaultAt) -> FillRefusal {
+    fn from(fault: FaultAt<TableFault>) -> FillRefusal {
         FillRefusal::Faulty(fault)
     }
 }

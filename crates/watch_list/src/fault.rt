@@ -24,10 +24,3 @@ impl ListFault {
         }
     }
 }
-
-// A fault, and the place of the first entry too many or at fault, from 0.
-#[derive(Clone, Copy)]
-pub struct ListFaultAt {
-    pub fault: ListFault,
-    pub place: usize,
-}
