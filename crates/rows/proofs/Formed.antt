@@ -4,9 +4,9 @@ use Rattle.std.specs.List.{AllByRecursion}
 use Rattle.std.proofs.ByRecursion.{All-push, All-weaker}
 use Rattle.std.proofs.lemmas.Bool.{and_parts}
 use Rattle.std.proofs.lemmas.Bool.Decides.{nat_tests}
-use Rattle.rows.specs.Checks.{fault_of, first_fault, first_partnerless, follows, located, or_else, places_of, row_fault, taken_as}
+use Rattle.rows.specs.Checks.{fault_of, first_fault, first_partnerless, follows, located, or_else, places_of, row_fault, is_taken}
 use Rattle.rows.specs.Layouts.{FormsLayout, NoCounterTwice, Pairwise, WellFormed}
-use Rattle.rows.specs.Rows.{content_of, span_fits}
+use Rattle.rows.specs.Rows.{span_fits}
 use Rattle.rows.specs.Orders.{rising, rising_after}
 use Rattle.fault_at.specs.declared.FaultAt.{FaultAt}
 use Rattle.rows.specs.declared.fault.TableFault.{TableFault}
@@ -38,7 +38,7 @@ rising_at (a ∷ b ∷ xs) y ys = let behind = rising_at (b ∷ xs) y ys in grin
 
 -- what a row passes after these
 Passes : List Row → Row → Type 0
-Passes rows row = WellFormed row × (follows rows row ≡ true) × (taken_as (content_of row) (places_of rows) ≡ false)
+Passes rows row = WellFormed row × (follows rows row ≡ true) × (is_taken row (places_of rows) ≡ false)
 
 -- what rows have passed
 record Passed (rows : List Row) : Type 0 where
@@ -143,3 +143,6 @@ forms_pass rows short forms rises =
 pub passes_exactly : (rows : List Row) → length rows ≤ 64
     → (fault_of rows ≡ None → FormsLayout rows × (rising rows ≡ true)) × (FormsLayout rows → rising rows ≡ true → fault_of rows ≡ None)
 passes_exactly rows short = (passing_forms rows, forms_pass rows short)
+
+pub passing_well_formed : (rows : List Row) → fault_of rows ≡ None → AllByRecursion WellFormed rows
+passing_well_formed rows free = (passing_forms rows free).0.well_formed
