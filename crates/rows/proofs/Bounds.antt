@@ -5,9 +5,9 @@ use Rattle.std.proofs.lemmas.Bool.{cond-false}
 use Rattle.std.proofs.lemmas.Bool.Decides.{nat_tests}
 use Rattle.mmd.specs.Cells.{blank, no_field}
 use Rattle.mmd.specs.Alike.{Within}
-use Rattle.rows.specs.Checks.{joined, layout_of, number_fits, place_in, places_of}
+use Rattle.rows.specs.Checks.{joined, layout_of, place_in, places_of}
 use Rattle.rows.specs.Layouts.{WellFormed}
-use Rattle.rows.specs.Rows.{cell_of, covers}
+use Rattle.rows.specs.Rows.{cell_of, covers, number_fits}
 use Rattle.rows.specs.Slots.{field_of, nowhere}
 use Rattle.rows.specs.declared.row.Row.{Row}
 use Rattle.rows.proofs.Spans.{span_within}

@@ -1,12 +1,13 @@
 -- The check of rows, step by step: the places of their counters, the first fault and the halves.
-use Rattle.std.proofs.Common.{◌≡◌, ℕ, suc, ◌+◌, ◌-◌, ◌<◌, ◌≤◌, Bool, true, false, cond, ltb, List, [], ◌∷◌, ◌++◌, length, get_or, take, drop, Some, None, Option, sym, refl, ap, ◌∙◌, arith}
-use Rattle.std.proofs.lemmas.List.{drop_more, length-take-le, take_more}
+use Rattle.std.proofs.Common.{◌≡◌, ℕ, suc, ◌+◌, ◌-◌, ◌<◌, ◌≤◌, true, false, ltb, List, [], ◌∷◌, ◌++◌, length, get_or, take, drop, Some, None, Option, sym, refl, ap, ◌∙◌, arith}
+use Rattle.std.specs.List.{position, position_from}
+use Rattle.std.proofs.lemmas.Iterator.Adapters.{position_from-zero}
 use Rattle.std.proofs.lemmas.Bool.Decides.{nat_tests}
-use Rattle.rows.specs.Checks.{fault_of, first_fault, first_partnerless, follows, joined, located, number_fits, or_else, partnerless_as, place_in, places_in, places_of, row_fault, with_place, Joins, SlotsOf}
-use Rattle.rows.specs.Rows.{content_of, span_fits}
+use Rattle.std.proofs.lemmas.List.{drop_more, length-take-le, take_more}
+use Rattle.rows.specs.Checks.{fault_of, first_fault, first_partnerless, follows, is_partnerless, joined, located, or_else, place_in, places_in, places_of, row_fault, with_place, Joins, SlotsOf}
 use Rattle.rows.specs.Slots.{nowhere}
 use Rattle.rows.specs.Orders.{in_order}
-use Rattle.rows.specs.declared.fault.FaultAt.{FaultAt}
+use Rattle.fault_at.specs.declared.FaultAt.{FaultAt}
 use Rattle.rows.specs.declared.fault.TableFault.{TableFault}
 use Rattle.rows.specs.declared.fault.TableFault.TheVariants.{TooManyRows, Partner}
 use Rattle.rows.specs.declared.row.Row.{Row}
@@ -68,16 +69,14 @@ first_fault_at rows i d f within found =
     let next = take_more rows i d within in
     cc
 
--- and the first half alone, by whether the row there is one
-pub partnerless_at : (p : ℕ → Places) (rows : List Row) (i : ℕ) (d : Row) (alone : Bool) → i < length rows → alone ≡ partnerless_as (content_of (get_or rows i d)) p
-    → first_partnerless p i (drop i rows) ≡ cond alone (Some (record { fault = Partner; place = i })) (first_partnerless p (i + 1) (drop (i + 1) rows))
-partnerless_at p rows i d alone within found =
-    let here = ap (first_partnerless p i) (drop_more rows i d within) in cc
+-- and the first half alone, by its place
+abbrev pub alone_at : Option ℕ → Option (FaultAt TableFault)
+alone_at None = None
+alone_at (Some place) = Some (record { fault = Partner; place = place })
 
--- a row that passes, fits
-pub passed_fits : (earlier : List Row) (row : Row) → None ≡ row_fault earlier row → (span_fits row ≡ true) × (number_fits row ≡ true)
-passed_fits earlier row passes =
-    let span : span_fits row ≡ true = grind (arith, nat_tests) in let number : number_fits row ≡ true = grind (arith, nat_tests) in (span, number)
+alone_from : (p : ℕ → Places) (place : ℕ) (rows : List Row) → first_partnerless p place rows ≡ alone_at (position_from (λ row. is_partnerless row p) place rows)
+alone_from p place [] = refl
+alone_from p place (row ∷ rest) = let behind = alone_from p (place + 1) rest in grind (arith, nat_tests)
 
 -- the slots of one row more
 pub slots_more : (rows : List Row) (i : ℕ) (d : Row) (before after : List CounterSlot) → i < length rows → SlotsOf (take i rows) before → Joins (get_or rows i d) before after
@@ -94,13 +93,16 @@ pub fault_too_many : (rows : List Row) → true ≡ ltb 64 (length rows) → fau
 unfolding fault_of
 fault_too_many rows many = cc
 
-pub fault_of_rows : (rows : List Row) (f : FaultAt) → false ≡ ltb 64 (length rows) → first_fault [] rows ≡ Some f → fault_of rows ≡ Some f
+pub fault_of_rows : (rows : List Row) (f : FaultAt TableFault) → false ≡ ltb 64 (length rows) → first_fault [] rows ≡ Some f → fault_of rows ≡ Some f
 unfolding fault_of
 fault_of_rows rows f few found = cc
 
--- what the second walk finds by the slots of rows that all pass
-pub fault_by_slots : (rows : List Row) (slots : List CounterSlot) (f : Option FaultAt) → false ≡ ltb 64 (length rows) → (first_fault [] rows ≡ None) × SlotsOf rows slots
-    → f ≡ first_partnerless (places_in slots) 0 rows → fault_of rows ≡ f
+-- what the search for a half alone finds by the slots of rows that all pass
+pub fault_by_slots : (rows : List Row) (slots : List CounterSlot) (place : Option ℕ) → false ≡ ltb 64 (length rows) → (first_fault [] rows ≡ None) × SlotsOf rows slots
+    → place ≡ position (λ row. is_partnerless row (places_in slots)) rows → fault_of rows ≡ alone_at place
 unfolding fault_of
-fault_by_slots rows slots f few placed found =
-    let same = ap (λ p. first_partnerless p 0 rows) (places_at rows slots placed.1) in cc
+fault_by_slots rows slots place few placed found =
+    let same = ap (λ p. first_partnerless p 0 rows) (places_at rows slots placed.1) in
+    let alone = alone_from (places_in slots) 0 rows in
+    let search = position_from-zero (λ row. is_partnerless row (places_in slots)) rows in
+    cc

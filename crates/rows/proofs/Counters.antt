@@ -3,9 +3,8 @@ use Rattle.std.proofs.Common.{◌≡◌, ℕ, false, List, [], ◌∷◌, arith}
 use Rattle.std.specs.List.{AllByRecursion}
 use Rattle.std.proofs.ByRecursion.{All-weaker}
 use Rattle.std.proofs.lemmas.Bool.Decides.{nat_tests}
-use Rattle.rows.specs.Checks.{joined, place_in, places_of, taken_as}
+use Rattle.rows.specs.Checks.{joined, place_in, places_of, is_taken}
 use Rattle.rows.specs.Layouts.{HalvesAtMost, NoCounterTwice}
-use Rattle.rows.specs.Rows.{content_of}
 use Rattle.rows.specs.declared.row.Row.{Row}
 use Rattle.rows.specs.declared.slot.Places.{Places}
 
@@ -20,10 +19,10 @@ halves_swap : (a b : Places) → HalvesAtMost a b → HalvesAtMost b a
 halves_swap a b h = grind (arith, nat_tests)
 
 -- counter by counter, what the test of a row says
-not_taken_halves : (p : ℕ → Places) (row : Row) → taken_as (content_of row) p ≡ false → (k : ℕ) → HalvesAtMost (p k) (place_in row k)
+not_taken_halves : (p : ℕ → Places) (row : Row) → is_taken row p ≡ false → (k : ℕ) → HalvesAtMost (p k) (place_in row k)
 not_taken_halves p row free k = grind (arith, nat_tests)
 
-halves_not_taken : (p : ℕ → Places) (row : Row) → ((k : ℕ) → HalvesAtMost (p k) (place_in row k)) → taken_as (content_of row) p ≡ false
+halves_not_taken : (p : ℕ → Places) (row : Row) → ((k : ℕ) → HalvesAtMost (p k) (place_in row k)) → is_taken row p ≡ false
 halves_not_taken p row apart = grind (arith, nat_tests, apart)
 
 -- row by row
@@ -39,10 +38,10 @@ halves_from_twice (x ∷ rows) row apart k =
     halves_join (place_in x k) (places_of rows k) (place_in row k) (apart.0 k) (halves_from_twice rows row apart.1 k)
 
 -- the test of a row, row by row
-pub twice_from_taken : (rows : List Row) (row : Row) → taken_as (content_of row) (places_of rows) ≡ false → AllByRecursion (λ x. NoCounterTwice x row) rows
+pub twice_from_taken : (rows : List Row) (row : Row) → is_taken row (places_of rows) ≡ false → AllByRecursion (λ x. NoCounterTwice x row) rows
 twice_from_taken rows row free = twice_from_halves rows row (not_taken_halves (places_of rows) row free)
 
-pub taken_from_twice : (rows : List Row) (row : Row) → AllByRecursion (λ x. NoCounterTwice x row) rows → taken_as (content_of row) (places_of rows) ≡ false
+pub taken_from_twice : (rows : List Row) (row : Row) → AllByRecursion (λ x. NoCounterTwice x row) rows → is_taken row (places_of rows) ≡ false
 taken_from_twice rows row apart = halves_not_taken (places_of rows) row (halves_from_twice rows row apart)
 
 -- a row and those behind it

@@ -4,11 +4,11 @@ use Rattle.std.specs.List.{AllByRecursion}
 use Rattle.std.proofs.ByRecursion.{All-push, All-weaker}
 use Rattle.std.proofs.lemmas.Bool.{and_parts}
 use Rattle.std.proofs.lemmas.Bool.Decides.{nat_tests}
-use Rattle.rows.specs.Checks.{fault_of, first_fault, first_partnerless, follows, located, or_else, places_of, row_fault, taken_as}
+use Rattle.rows.specs.Checks.{fault_of, first_fault, first_partnerless, follows, located, or_else, places_of, row_fault, is_taken}
 use Rattle.rows.specs.Layouts.{FormsLayout, NoCounterTwice, Pairwise, WellFormed}
-use Rattle.rows.specs.Rows.{content_of, span_fits}
+use Rattle.rows.specs.Rows.{span_fits}
 use Rattle.rows.specs.Orders.{rising, rising_after}
-use Rattle.rows.specs.declared.fault.FaultAt.{FaultAt}
+use Rattle.fault_at.specs.declared.FaultAt.{FaultAt}
 use Rattle.rows.specs.declared.fault.TableFault.{TableFault}
 use Rattle.rows.specs.declared.row.Row.{Row}
 use Rattle.rows.specs.declared.slot.Places.{Places}
@@ -38,7 +38,7 @@ rising_at (a ∷ b ∷ xs) y ys = let behind = rising_at (b ∷ xs) y ys in grin
 
 -- what a row passes after these
 Passes : List Row → Row → Type 0
-Passes rows row = WellFormed row × (follows rows row ≡ true) × (taken_as (content_of row) (places_of rows) ≡ false)
+Passes rows row = WellFormed row × (follows rows row ≡ true) × (is_taken row (places_of rows) ≡ false)
 
 -- what rows have passed
 record Passed (rows : List Row) : Type 0 where
@@ -69,7 +69,7 @@ passed_at rows row rest all =
     let order = (and_parts (rising rows) (follows rows row && rising_after row rest) (sym (rising_at rows row rest) ∙ all.rises)).1 in
     (all_at WellFormed rows row rest all.well_formed, (and_parts (follows rows row) (rising_after row rest) order).0, taken_from_twice rows row (pairwise_at NoCounterTwice rows row rest all.no_counter_twice))
 
-neither_fault : (here : Option TableFault) (place : ℕ) (behind : Option FaultAt) → or_else (located here place) behind ≡ None → (here ≡ None) × (behind ≡ None)
+neither_fault : (here : Option TableFault) (place : ℕ) (behind : Option (FaultAt TableFault)) → or_else (located here place) behind ≡ None → (here ≡ None) × (behind ≡ None)
 neither_fault here place behind free = grind (arith, nat_tests)
 
 passed_all : (earlier rest : List Row) → first_fault earlier rest ≡ None → Passed earlier → Passed (earlier ++ rest)
@@ -143,3 +143,6 @@ forms_pass rows short forms rises =
 pub passes_exactly : (rows : List Row) → length rows ≤ 64
     → (fault_of rows ≡ None → FormsLayout rows × (rising rows ≡ true)) × (FormsLayout rows → rising rows ≡ true → fault_of rows ≡ None)
 passes_exactly rows short = (passing_forms rows, forms_pass rows short)
+
+pub passing_well_formed : (rows : List Row) → fault_of rows ≡ None → AllByRecursion WellFormed rows
+passing_well_formed rows free = (passing_forms rows free).0.well_formed

@@ -7,7 +7,7 @@ use Rattle.mmd.specs.Cells.{Cell, Field, blank, short, high_half, low_half, shor
 use Rattle.mmd.specs.Invariant.{Sound, ShortAt, HighAt, LowAt}
 use Rattle.rows.specs.Checks.{fault_of, joined, layout_of, place_in, places_of}
 use Rattle.rows.specs.Layouts.{Apart, FormsLayout, HalvesAtMost, NoCounterTwice, Pairwise}
-use Rattle.rows.specs.Rows.{cell_at, cell_of, content_of, covers, span_fits}
+use Rattle.rows.specs.Rows.{cell_in, cell_of, content_of, covers, span_fits}
 use Rattle.rows.specs.Slots.{field_of, narrow_short}
 use Rattle.rows.specs.Orders.{rising}
 use Rattle.rows.specs.declared.row.Row.{Row}
@@ -23,10 +23,10 @@ data Part : Type 0 where
   high_part : Part
   low_part : Part
 
-abbrev cell_in : Part → ℕ → ℕ → Cell
-cell_in short_part k p = short k p
-cell_in high_part k p = high_half k p
-cell_in low_part k p = low_half k p
+abbrev cell_part : Part → ℕ → ℕ → Cell
+cell_part short_part k p = short k p
+cell_part high_part k p = high_half k p
+cell_part low_part k p = low_half k p
 
 abbrev register_whole : Option ℕ → Option ShortPlace
 register_whole None = None
@@ -44,11 +44,11 @@ Within r b p (Some s) = (s.register ≡ r) × (b ≡ s.low + p) × (p < s.width)
 
 -- ---- one row
 
-row_places : (part : Part) (row : Row) (r b k p : ℕ) → span_fits row ≡ true → covers row r b ≡ true → cell_at (content_of row) (b - row.low) ≡ cell_in part k p → Within r b p (part_of part (place_in row k))
+row_places : (part : Part) (row : Row) (r b k p : ℕ) → span_fits row ≡ true → covers row r b ≡ true → cell_in (content_of row) (b - row.low) ≡ cell_part part k p → Within r b p (part_of part (place_in row k))
 unfolding span_fits
 row_places part row r b k p fits here shows = grind (arith, nat_tests)
 
-row_whole : (part : Part) (row : Row) (r b k p : ℕ) → span_fits row ≡ true → Within r b p (part_of part (place_in row k)) → (covers row r b ≡ true) × (cell_at (content_of row) (b - row.low) ≡ cell_in part k p)
+row_whole : (part : Part) (row : Row) (r b k p : ℕ) → span_fits row ≡ true → Within r b p (part_of part (place_in row k)) → (covers row r b ≡ true) × (cell_in (content_of row) (b - row.low) ≡ cell_part part k p)
 unfolding span_fits
 row_whole part row r b k p fits within = grind (arith, nat_tests)
 
@@ -68,14 +68,14 @@ blank_behind row [] r b apart here = refl
 blank_behind row (x ∷ rest) r b apart here =
     let beside = apart.0 r b here in let behind = blank_behind row rest r b apart.1 here in grind (arith, nat_tests)
 
-beside_shown : (part : Part) (row : Row) (rest : List Row) (r b k p : ℕ) → AllByRecursion (Apart row) rest → cell_of rest r b ≡ cell_in part k p → covers row r b ≡ false
+beside_shown : (part : Part) (row : Row) (rest : List Row) (r b k p : ℕ) → AllByRecursion (Apart row) rest → cell_of rest r b ≡ cell_part part k p → covers row r b ≡ false
 beside_shown part row rest r b k p apart shown =
     ⊎_elim (λ (here : covers row r b ≡ true). let none = blank_behind row rest r b apart here in grind (arith, nat_tests)) (λ beside. beside) (cases_Bool (covers row r b))
 
 -- ---- every row
 
 -- the cells of a counter's part stand where it is
-placed : (part : Part) (rows : List Row) (r b k p : ℕ) → AllByRecursion (λ row. span_fits row ≡ true) rows → Pairwise NoCounterTwice rows → cell_of rows r b ≡ cell_in part k p → Within r b p (part_of part (places_of rows k))
+placed : (part : Part) (rows : List Row) (r b k p : ℕ) → AllByRecursion (λ row. span_fits row ≡ true) rows → Pairwise NoCounterTwice rows → cell_of rows r b ≡ cell_part part k p → Within r b p (part_of part (places_of rows k))
 placed part [] r b k p fit once shows = grind (arith, nat_tests)
 placed part (row ∷ rest) r b k p fit once shows =
     ⊎_elim
@@ -85,7 +85,7 @@ placed part (row ∷ rest) r b k p fit once shows =
     (cases_Bool (covers row r b))
 
 -- and a part has all its cells
-whole : (part : Part) (rows : List Row) (r b k p : ℕ) → AllByRecursion (λ row. span_fits row ≡ true) rows → Pairwise Apart rows → Within r b p (part_of part (places_of rows k)) → cell_of rows r b ≡ cell_in part k p
+whole : (part : Part) (rows : List Row) (r b k p : ℕ) → AllByRecursion (λ row. span_fits row ≡ true) rows → Pairwise Apart rows → Within r b p (part_of part (places_of rows k)) → cell_of rows r b ≡ cell_part part k p
 whole part [] r b k p fit apart within = grind (arith, nat_tests)
 whole part (row ∷ rest) r b k p fit apart within =
     ⊎_elim
@@ -120,12 +120,12 @@ within_field part p r b n there = grind (arith, nat_tests)
 -- ---- what is asked of a layout
 
 module _ (rows : List Row) (forms : FormsLayout rows) where
-  cell_placed : (part : Part) (r b k p : ℕ) → cell_of rows r b ≡ cell_in part k p → At part r b p (field_of (places_of rows k))
+  cell_placed : (part : Part) (r b k p : ℕ) → cell_of rows r b ≡ cell_part part k p → At part r b p (field_of (places_of rows k))
   cell_placed part r b k p shows =
       at_field part (places_of rows k) r b p (short_alone rows forms.no_counter_twice k) (forms.halves_paired k)
       (placed part rows r b k p (fits_from_well_formed rows forms.well_formed) forms.no_counter_twice shows)
 
-  field_whole : (part : Part) (r b k p : ℕ) (f : Field) → field_of (places_of rows k) ≡ f → At part r b p f → cell_of rows r b ≡ cell_in part k p
+  field_whole : (part : Part) (r b k p : ℕ) (f : Field) → field_of (places_of rows k) ≡ f → At part r b p f → cell_of rows r b ≡ cell_part part k p
   field_whole part r b k p f is there =
       whole part rows r b k p (fits_from_well_formed rows forms.well_formed) forms.no_bit_shared (within_field part (places_of rows k) r b p (subst (At part r b p) (sym is) there))
 

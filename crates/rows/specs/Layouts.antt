@@ -1,8 +1,8 @@
 -- When rows form a layout, in the rules' own words.
 use Rattle.std.specs.Prelude.{◌≡◌, ℕ, true, false, ◌&&◌, List, [], ◌∷◌, is_some}
 use Rattle.std.specs.List.{AllByRecursion}
-use Rattle.rows.specs.Checks.{kind_listed, number_fits, place_in, places_of}
-use Rattle.rows.specs.Rows.{covers, span_fits}
+use Rattle.rows.specs.Checks.{kind_listed, place_in, places_of}
+use Rattle.rows.specs.Rows.{covers, number_fits, span_fits}
 use Rattle.rows.specs.Slots.{nowhere}
 use Rattle.rows.specs.declared.row.Row.{Row}
 use Rattle.rows.specs.declared.slot.Places.{Places}

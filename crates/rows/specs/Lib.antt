@@ -1,7 +1,9 @@
 pub mod Checks
 pub mod Faults
+pub mod Fitting
 pub mod Layouts
 pub mod Orders
+pub mod Parts
 pub mod Rows
 pub mod Slots
 pub mod Spans

@@ -1,11 +1,10 @@
--- Values in a row's span.
+-- Values in a span of a register.
 use Rattle.std.specs.Prelude.{◌≡◌, ℕ, ◌-◌, Bool, ◌&&◌, nat_le}
 use Rattle.bits.specs.Bits.{bit}
-use Rattle.rows.specs.declared.row.Row.{Row}
 
-abbrev pub in_span : Row → ℕ → Bool
-in_span row b = nat_le row.low b && nat_le b row.high
+abbrev pub in_span : ℕ → ℕ → ℕ → Bool
+in_span low high b = nat_le low b && nat_le b high
 
--- r has the value's low bits in the row's span, and zeros beside it
-abbrev pub PutIntoSpan : Row → ℕ → ℕ → Type 0
-PutIntoSpan row value r = (b : ℕ) → bit r b ≡ (in_span row b && bit value (b - row.low))
+-- r has the value's low bits in the span, and zeros beside it
+abbrev pub PutIntoSpan : ℕ → ℕ → ℕ → ℕ → Type 0
+PutIntoSpan low high value r = (b : ℕ) → bit r b ≡ (in_span low high b && bit value (b - low))

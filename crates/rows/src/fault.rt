@@ -2,22 +2,25 @@
 ghost use Rattle.std.specs.Prelude.{◌≡◌};
 ghost use Rattle.rows.specs.Faults.{number_of};
 
-#[derive(Clone, Copy, PartialEq, Eq, Debug)]
+use thiserror::Error;
+
+// Each with its refusal's number on the card.
+#[derive(Clone, Copy, PartialEq, Eq, Debug, Error)]
 pub enum TableFault {
-    // more than 64 rows
-    TooManyRows,
-    // kind outside 1 to 9
-    Kind,
-    // high above 15, low above high, or a span that is wrong for the kind
-    Span,
-    // value too wide, line above 31, counter above 15, or kind 6 with a number other than 0
-    Number,
-    // register below the previous row's, or the same register and low not above its high
-    Order,
-    // the counter has a field, and the row is not its missing half
-    Counter,
-    // the other half is missing
-    Partner,
+    #[error("more than 64 rows")]
+    TooManyRows = 10,
+    #[error("kind outside 1 to 9")]
+    Kind = 11,
+    #[error("high above 15, low above high, or a span that is wrong for the kind")]
+    Span = 12,
+    #[error("value too wide, line above 31, counter above 15, or kind 6 with a number other than 0")]
+    Number = 13,
+    #[error("register below the previous row's, or the same register and low not above its high")]
+    Order = 14,
+    #[error("the counter has a field, and the row is not its missing half")]
+    Counter = 15,
+    #[error("the other half is missing")]
+    Partner = 16,
 }
 
 impl TableFault {
@@ -25,21 +28,6 @@ impl TableFault {
     pub fn number(self) -> u8
         ensures { result ≡ number_of self }
     {
-        match self {
-            TableFault::TooManyRows => 10,
-            TableFault::Kind => 11,
-            TableFault::Span => 12,
-            TableFault::Number => 13,
-            TableFault::Order => 14,
-            TableFault::Counter => 15,
-            TableFault::Partner => 16,
-        }
+        self as u8
     }
-}
-
-// A fault, and the place of the first row at fault, from 0.
-#[derive(Clone, Copy)]
-pub struct FaultAt {
-    pub fault: TableFault,
-    pub place: usize,
 }

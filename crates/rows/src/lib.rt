@@ -3,5 +3,8 @@
 
 pub mod check;
 pub mod fault;
+pub mod fitting;
+mod part;
 pub mod row;
 pub mod slot;
+pub mod span;

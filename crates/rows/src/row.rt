@@ -1,9 +1,10 @@
 // A row of a layout, as a data sheet lists it: a register, a span of its bits, a kind and a number.
-ghost use Rattle.std.specs.Prelude.{◌≡◌, ◌+◌, ◌-◌, ◌≤◌};
+ghost use Rattle.std.specs.Prelude.{◌≡◌};
 ghost use Rattle.rows.specs.Rows.{content_numbered, content_of, covers};
 ghost use Rattle.rows.specs.Orders.{in_order};
 
-#[derive(Clone, Copy)]
+// What a data sheet lists need not fit: a kind outside 1 to 9 is refused by 11, a wrong span by 12, a wrong number by 13.
+#[derive(Clone, Copy, PartialEq, Eq, Debug)]
 pub struct Row {
     pub register: u16,
     pub high: u8,
@@ -13,7 +14,7 @@ pub struct Row {
 }
 
 // What a row puts into its span: its kind, with its number as that kind reads it.
-#[derive(Clone, Copy)]
+#[derive(Clone, Copy, PartialEq, Eq, Debug)]
 pub enum Content {
     // kind 1, with the value
     Fixed(u16),
@@ -29,12 +30,11 @@ pub enum Content {
     ShortCounter(u16),
     HighHalf(u16),
     LowHalf(u16),
-    // any other kind
-    Unknown,
 }
 
 impl Row {
-    pub fn content(&self) -> Content
+    // None where the kind is none of 1 to 9.
+    pub fn content(&self) -> Option<Content>
         ensures { result ≡ content_of self.now }
     {
         content_numbered(self.kind, self.number)
@@ -46,14 +46,6 @@ impl Row {
         self.register == register && self.low <= bit && bit <= self.high
     }
 
-    // How many bits the span has.
-    pub(crate) fn width(&self) -> u8
-        requires { (self.now.low ≤ self.now.high) × (self.now.high ≤ 15) }
-        ensures { result ≡ self.now.high + 1 - self.now.low }
-    {
-        self.high + 1 - self.low
-    }
-
     // The row may stand right before another: registers rise, and spans within one register.
     pub(crate) fn comes_before(&self, next: &Row) -> bool
         ensures { result ≡ in_order self.now next.now }
@@ -62,19 +54,19 @@ impl Row {
     }
 }
 
-fn content_numbered(kind: u8, number: u16) -> Content
+fn content_numbered(kind: u8, number: u16) -> Option<Content>
     ensures { result ≡ content_numbered kind number }
 {
     match kind {
-        1 => Content::Fixed(number),
-        2 => Content::Follower(number),
-        3 => Content::LatchingHigh(number),
-        4 => Content::LatchingLow(number),
-        5 => Content::Setting(number),
-        6 => Content::SelfClearing,
-        7 => Content::ShortCounter(number),
-        8 => Content::HighHalf(number),
-        9 => Content::LowHalf(number),
-        _ => Content::Unknown,
+        1 => Some(Content::Fixed(number)),
+        2 => Some(Content::Follower(number)),
+        3 => Some(Content::LatchingHigh(number)),
+        4 => Some(Content::LatchingLow(number)),
+        5 => Some(Content::Setting(number)),
+        6 => Some(Content::SelfClearing),
+        7 => Some(Content::ShortCounter(number)),
+        8 => Some(Content::HighHalf(number)),
+        9 => Some(Content::LowHalf(number)),
+        _ => None,
     }
 }

@@ -1,11 +1,14 @@
 // The slot of a counter: where its field stands, and how far it has counted.
 ghost use Rattle.std.specs.Prelude.{◌≡◌, slice_index_or};
 ghost use Rattle.rows.specs.Checks.{joined};
+ghost use Rattle.rows.specs.Parts.{lacks_partner, part_place, part_taken};
 ghost use Rattle.rows.specs.Slots.{empty_slot};
 
+use crate::fitting::FittingRow;
+use crate::part::Part;
 use mmd::counter::Counter;
 
-#[derive(Clone, Copy)]
+#[derive(Clone, Copy, PartialEq, Eq, Debug)]
 pub struct ShortPlace {
     pub register: u16,
     pub low: u8,
@@ -13,7 +16,7 @@ pub struct ShortPlace {
 }
 
 // The rows that name a counter.
-#[derive(Clone, Copy)]
+#[derive(Clone, Copy, PartialEq, Eq, Debug)]
 pub struct Places {
     pub short: Option<ShortPlace>,
     // the registers of the halves
@@ -27,6 +30,57 @@ impl Places {
         high: None,
         low: None,
     };
+
+    // The place that a row gives to a part of a counter.
+    pub(crate) fn of(part: Part, row: &FittingRow) -> Places
+        ensures { result ≡ part_place row.now.listed part }
+    {
+        let register = row.listed.register;
+        match part {
+            Part::Short => {
+                let span = row.span();
+                let place = ShortPlace {
+                    register,
+                    low: span.low,
+                    width: span.width(),
+                };
+                Places {
+                    short: Some(place),
+                    ..Places::NOWHERE
+                }
+            }
+            Part::High => Places {
+                high: Some(register),
+                ..Places::NOWHERE
+            },
+            Part::Low => Places {
+                low: Some(register),
+                ..Places::NOWHERE
+            },
+        }
+    }
+
+    // One part more is one too many.
+    pub(crate) fn is_taken(self, part: Part) -> bool
+        ensures { result ≡ part_taken self part }
+    {
+        match part {
+            Part::Short => self.short.is_some() || self.high.is_some() || self.low.is_some(),
+            Part::High => self.short.is_some() || self.high.is_some(),
+            Part::Low => self.short.is_some() || self.low.is_some(),
+        }
+    }
+
+    // The part is a half, and the other half is nowhere.
+    pub(crate) fn lacks_partner(self, part: Part) -> bool
+        ensures { result ≡ lacks_partner self part }
+    {
+        match part {
+            Part::Short => false,
+            Part::High => self.low.is_none(),
+            Part::Low => self.high.is_none(),
+        }
+    }
 
     // The places of both; of one sort, the first.
     pub(crate) fn joined(self, more: Places) -> Places
@@ -58,8 +112,8 @@ impl CounterSlot {
 pub fn slot_of(slots: &[CounterSlot], number: u16) -> CounterSlot
     ensures { result ≡ slice_index_or slots.now number empty_slot }
 {
-    match slots.get(usize::from(number)) {
-        Some(slot) => *slot,
-        None => CounterSlot::EMPTY,
-    }
+    slots
+        .get(usize::from(number))
+        .copied()
+        .unwrap_or(CounterSlot::EMPTY)
 }

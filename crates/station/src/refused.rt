@@ -2,23 +2,24 @@
 ghost use Rattle.std.specs.Prelude.{◌≡◌, Ok, Err, IfOk, IfErr};
 ghost use Rattle.station.specs.declared.refused.Why.TheVariants.{Listed, Memory};
 
+use fault_at::FaultAt;
 use std::alloc::AllocError;
 use thiserror::Error;
-use watch_list::fault::ListFaultAt;
+use watch_list::fault::ListFault;
 
 #[derive(Clone, Copy, PartialEq, Eq, Debug, Error)]
 pub enum Why {
     // what is wrong with the watch list, and where
     #[error(transparent)]
-    Listed(ListFaultAt),
+    Listed(FaultAt<ListFault>),
     #[error("no memory")]
     Memory,
 }
 
-impl From<ListFaultAt> for Why {
+impl From<FaultAt<ListFault>> for Why {
     ghost from_gives = { λ fault why. why ≡ Listed fault };
 
-    fn from(fault: ListFaultAt) -> Why {
+    fn from(fault: FaultAt<ListFault>) -> Why {
         Why::Listed(fault)
     }
 }

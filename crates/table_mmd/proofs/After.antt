@@ -2,7 +2,6 @@
 use Rattle.std.specs.Prelude.{◌≡◌, ℕ, ◌+◌, ◌<◌, ◌≤◌, min, Bool, true, false, cond, ◌&&◌, List, map, length, get_or, ◌==◌, nat_lt, slice_index_or, slice_set}
 use Rattle.std.proofs.Math.Path.{refl, sym, ap}
 use Rattle.std.proofs.Common.{◌∙◌, ⊎_elim}
-use Rattle.std.specs.List.{AllByRecursion}
 use Rattle.std.proofs.lemmas.List.{get_or-set_same, get_or-set_other}
 use Rattle.std.proofs.lemmas.Bool.{and_right, cases_eq, cond-true, cond-false, eq-eqb, ne_eqb, le-ltb, lt-ltb}
 use Rattle.mmd.proofs.Equal.{same_meaning}
@@ -18,7 +17,7 @@ use Rattle.rows.specs.Slots.{empty_slot, field_of}
 use Rattle.table_mmd.specs.Tables.{stored_of, table_meaning}
 use Rattle.table_mmd.specs.declared.entry.Entry.{Entry}
 use Rattle.rows.specs.declared.slot.CounterSlot.{CounterSlot}
-use Rattle.table_mmd.proofs.Places.{Fits, relatch_acts, write_acts, line_acts, finish_acts, reset_acts}
+use Rattle.table_mmd.proofs.Places.{relatch_acts, write_acts, line_acts, finish_acts, reset_acts}
 use Rattle.table_mmd.proofs.Stored.{Acts, get_d_map, rows_stay, stored_after}
 
 -- one counter of them counted
@@ -57,26 +56,26 @@ after_change es lines slots g h =
       held = λ k. (h (slice_index_or slots k empty_slot)).counter.held;
     }
 
-module _ (es : List Entry) (fit : AllByRecursion Fits es) (lines : ℕ) (slots : List CounterSlot) where
-  rows_changed : {f : Entry → Entry} {g : ℕ → ℕ → Cell → Bool → Bool} → Acts Fits f g → table_meaning (map f es) lines slots ≡ after_change es lines slots g (λ s. s)
+module _ (es : List Entry) (lines : ℕ) (slots : List CounterSlot) where
+  rows_changed : {f : Entry → Entry} {g : ℕ → ℕ → Cell → Bool → Bool} → Acts f g → table_meaning (map f es) lines slots ≡ after_change es lines slots g (λ s. s)
   unfolding table_meaning after_change
   rows_changed {f} acts = λ i.
       record {
         layout = record { cell = cell_of (rows_stay f acts.same_row es i); field = λ k. field_of (get_or slots k empty_slot).places };
         line = bit lines;
-        stored = λ q b. stored_after acts es q b fit i;
+        stored = λ q b. stored_after acts es q b i;
         counter = λ k. (get_or slots k empty_slot).counter.value;
         held = λ k. (get_or slots k empty_slot).counter.held;
       }
 
-  both_changed : {f : Entry → Entry} {g : ℕ → ℕ → Cell → Bool → Bool} (h : CounterSlot → CounterSlot) → Acts Fits f g → h empty_slot ≡ empty_slot
+  both_changed : {f : Entry → Entry} {g : ℕ → ℕ → Cell → Bool → Bool} (h : CounterSlot → CounterSlot) → Acts f g → h empty_slot ≡ empty_slot
       → table_meaning (map f es) lines (map h slots) ≡ after_change es lines slots g h
   unfolding table_meaning after_change
   both_changed {f} h acts none = λ i.
       record {
         layout = record { cell = cell_of (rows_stay f acts.same_row es i); field = λ k. field_of (get_d_map h empty_slot none slots k i).places };
         line = bit lines;
-        stored = λ q b. stored_after acts es q b fit i;
+        stored = λ q b. stored_after acts es q b i;
         counter = λ k. (get_d_map h empty_slot none slots k i).counter.value;
         held = λ k. (get_d_map h empty_slot none slots k i).counter.held;
       }
@@ -102,7 +101,7 @@ module _ (es : List Entry) (fit : AllByRecursion Fits es) (lines : ℕ) (slots :
   unfolding table_meaning after_line
   line_means n up lines' small sets =
       same_meaning _ _ (λ i. record { cell = cell_of (rows_stay (move_line n up) (line_acts n up).same_row es i); field = λ k. field_of (get_or slots k empty_slot).places })
-      sets (λ q b. stored_after (line_acts n up) es q b fit ∙ sym (cond-true (nat_lt n 32) _ _ (lt-ltb n 32 small))) (λ k. refl) (λ k. refl)
+      sets (λ q b. stored_after (line_acts n up) es q b ∙ sym (cond-true (nat_lt n 32) _ _ (lt-ltb n 32 small))) (λ k. refl) (λ k. refl)
 
   -- one that it has not
   pub no_line_means : (n : ℕ) (up : Bool) → 32 ≤ n → table_meaning es lines slots ≡ after_line (table_meaning es lines slots) n up

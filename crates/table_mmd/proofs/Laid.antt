@@ -12,7 +12,7 @@ use Rattle.mmd.proofs.Kept.{read_keeps, write_keeps, line_keeps, count_keeps, fi
 use Rattle.mmd.specs.Invariant.{Keeps}
 use Rattle.mmd.specs.Meaning.{Meaning}
 use Rattle.table_mmd.specs.Changes.{relatch, write_row, move_line, finish_bit, reset_row}
-use Rattle.table_mmd.specs.Entries.{all_fit, rows_fit, rows_of}
+use Rattle.table_mmd.specs.Entries.{rows_of}
 use Rattle.rows.specs.Layouts.{Apart, Pairwise}
 use Rattle.rows.specs.Rows.{span_fits}
 use Rattle.table_mmd.specs.Counts.{all_narrow, slot_read, slot_counted, slot_reset}
@@ -20,30 +20,19 @@ use Rattle.rows.specs.Slots.{empty_slot, narrow_short}
 use Rattle.rows.specs.Orders.{rising}
 use Rattle.table_mmd.specs.Tables.{Laid, table_meaning}
 use Rattle.table_mmd.specs.declared.entry.Entry.{Entry}
-use Rattle.rows.specs.declared.row.Row.{Row}
 use Rattle.rows.specs.declared.slot.CounterSlot.{CounterSlot}
 use Rattle.table_mmd.proofs.After.{read_means, write_means, line_means, count_means, finish_means, reset_means}
 use Rattle.rows.proofs.Disjoint.{rising_apart}
-use Rattle.table_mmd.proofs.Places.{Fits, relatch_acts, write_acts, line_acts, finish_acts, reset_acts}
+use Rattle.table_mmd.proofs.Places.{relatch_acts, write_acts, line_acts, finish_acts, reset_acts}
 use Rattle.table_mmd.proofs.Stored.{rows_stay}
 
 -- ---- what comes out of the invariant
 
-pub all_fits : (es : List Entry) → all_fit es ≡ true → AllByRecursion Fits es
-all_fits [] fit = tt
-all_fits (e ∷ es) fit = let parts = and_parts _ _ fit in (parts.0, all_fits es parts.1)
-
-rows_all : (rows : List Row) → rows_fit rows ≡ true → AllByRecursion (λ row. span_fits row ≡ true) rows
-rows_all [] fit = tt
-rows_all (row ∷ rows) fit = let parts = and_parts _ _ fit in (parts.0, rows_all rows parts.1)
+rows_fit : (es : List Entry) → AllByRecursion (λ row. span_fits row ≡ true) (rows_of es)
+rows_fit [] = tt
+rows_fit (e ∷ es) = (e.row.span_fits, rows_fit es)
 
 module _ {es : List Entry} {lines : ℕ} {slots : List CounterSlot} (laid : ∥ Laid es lines slots ∥₁) where
-  pub fits_of : all_fit es ≡ true
-  fits_of = ∥∥₁_elim laid (Bool-set _ _) (λ l. l.fits)
-
-  pub all_fits_of : AllByRecursion Fits es
-  all_fits_of = all_fits es fits_of
-
   pub narrow_of : all_narrow slots ≡ true
   narrow_of = ∥∥₁_elim laid (Bool-set _ _) (λ l. l.narrow)
 
@@ -55,7 +44,7 @@ module _ {es : List Entry} {lines : ℕ} {slots : List CounterSlot} (laid : ∥ 
 
   -- no two of its rows share a bit
   pub apart_of : Pairwise Apart (rows_of es)
-  apart_of = rising_apart (rows_of es) (rows_all (rows_of es) fits_of) rises_of
+  apart_of = rising_apart (rows_of es) (rows_fit es) rises_of
 
 pub narrow_at : (slots : List CounterSlot) (k : ℕ) → all_narrow slots ≡ true → narrow_short (get_or slots k empty_slot).places.short ≡ true
 narrow_at [] k narrow = refl
@@ -66,11 +55,6 @@ narrow_at (s ∷ ss) (suc k) narrow = narrow_at ss k (and_parts _ _ narrow).1
 pub laid_as : (lines : ℕ) {es es' : List Entry} {slots slots' : List CounterSlot} → es' ≡ es → slots' ≡ slots → ∥ Laid es lines slots ∥₁ → ∥ Laid es' lines slots' ∥₁
 laid_as lines {es} {es'} {slots} {slots'} rows counters laid =
     subst (λ l. ∥ Laid l lines slots' ∥₁) (sym rows) (subst (λ l. ∥ Laid es lines l ∥₁) (sym counters) laid)
-
--- a change that may be asked of every counter
-pub any_slot : (slots : List CounterSlot) → AllByRecursion (λ _. Unit {0}) slots
-any_slot [] = tt
-any_slot (s ∷ ss) = (tt, any_slot ss)
 
 -- ---- what each call leaves
 
@@ -89,7 +73,6 @@ kept_so : (es es' : List Entry) (lines lines' : ℕ) (slots slots' : List Counte
     → table_meaning es' lines' slots' ≡ m → Keeps m → Laid es lines slots → Laid es' lines' slots'
 kept_so es es' lines lines' slots slots' m rows narrow long means keeps laid =
     record {
-      fits = ap rows_fit rows ∙ laid.fits;
       rises = ap rising rows ∙ laid.rises;
       narrow = narrow;
       sixteen_slots = long ∙ laid.sixteen_slots;
@@ -97,35 +80,32 @@ kept_so es es' lines lines' slots slots' m rows narrow long means keeps laid =
     }
 
 module _ (es : List Entry) (lines : ℕ) (slots : List CounterSlot) (laid : Laid es lines slots) where
-  fit : AllByRecursion Fits es
-  fit = all_fits es laid.fits
-
   pub read_laid : (r : ℕ) → Laid (map (relatch lines r) es) lines (map (slot_read r) slots)
   read_laid r =
       kept_so es _ lines lines slots _ _ (rows_stay (relatch lines r) (relatch_acts lines r).same_row es)
-      (narrow_map (slot_read r) (λ s. refl) slots ∙ laid.narrow) (length-map slots (slot_read r)) (read_means es fit lines slots r) (read_keeps _ laid.keeps r) laid
+      (narrow_map (slot_read r) (λ s. refl) slots ∙ laid.narrow) (length-map slots (slot_read r)) (read_means es lines slots r) (read_keeps _ laid.keeps r) laid
 
   pub write_laid : (r word : ℕ) → Laid (map (write_row r word) es) lines slots
   write_laid r word =
       kept_so es _ lines lines slots slots _ (rows_stay (write_row r word) (write_acts r word).same_row es)
-      laid.narrow refl (write_means es fit lines slots r word) (write_keeps _ laid.keeps r word) laid
+      laid.narrow refl (write_means es lines slots r word) (write_keeps _ laid.keeps r word) laid
 
   pub line_laid : (n : ℕ) (up : Bool) (lines' : ℕ) → n < 32 → SetsBit lines n up lines' → Laid (map (move_line n up) es) lines' slots
   line_laid n up lines' small sets =
       kept_so es _ lines lines' slots slots _ (rows_stay (move_line n up) (line_acts n up).same_row es)
-      laid.narrow refl (line_means es fit lines slots n up lines' small sets) (line_keeps _ laid.keeps n up) laid
+      laid.narrow refl (line_means es lines slots n up lines' small sets) (line_keeps _ laid.keeps n up) laid
 
   pub count_laid : (k amount : ℕ) → k < length slots → Laid es lines (slice_set slots k (slot_counted amount (slice_index_or slots k empty_slot)))
   count_laid k amount within =
       kept_so es es lines lines slots _ _ refl (narrow_set slots k _ refl laid.narrow) (length-set slots k _)
-      (count_means es fit lines slots k amount within) (count_keeps _ laid.keeps k amount) laid
+      (count_means es lines slots k amount within) (count_keeps _ laid.keeps k amount) laid
 
   pub finish_laid : (r b : ℕ) → Laid (map (finish_bit r b) es) lines slots
   finish_laid r b =
       kept_so es _ lines lines slots slots _ (rows_stay (finish_bit r b) (finish_acts r b).same_row es)
-      laid.narrow refl (finish_means es fit lines slots r b) (finish_keeps _ laid.keeps r b) laid
+      laid.narrow refl (finish_means es lines slots r b) (finish_keeps _ laid.keeps r b) laid
 
   pub reset_laid : Laid (map (reset_row lines) es) lines (map slot_reset slots)
   reset_laid =
       kept_so es _ lines lines slots _ _ (rows_stay (reset_row lines) (reset_acts lines).same_row es)
-      (narrow_map slot_reset (λ s. refl) slots ∙ laid.narrow) (length-map slots slot_reset) (reset_means es fit lines slots) (reset_keeps _ laid.keeps) laid
+      (narrow_map slot_reset (λ s. refl) slots ∙ laid.narrow) (length-map slots slot_reset) (reset_means es lines slots) (reset_keeps _ laid.keeps) laid

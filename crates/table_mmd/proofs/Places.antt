@@ -9,15 +9,11 @@ use Rattle.mmd.specs.Events.{relatched, written, moved}
 use Rattle.mmd.specs.Meaning.{default_state}
 use Rattle.table_mmd.specs.Changes.{relatch, relatched_state, write_row, written_state, move_line, moved_state, finish_bit, finished_state, reset_row, reset_state}
 use Rattle.table_mmd.specs.Entries.{stored_at}
-use Rattle.rows.specs.Rows.{cell_at, content_of, one_bit, span_fits}
-use Rattle.table_mmd.specs.declared.entry.Entry.{Entry}
+use Rattle.rows.specs.Rows.{cell_at, one_bit}
 use Rattle.rows.specs.declared.row.Content.{Content}
-use Rattle.rows.specs.declared.row.Content.TheVariants.{Fixed, Follower, LatchingHigh, LatchingLow, Setting, SelfClearing, ShortCounter, HighHalf, LowHalf, Unknown}
+use Rattle.rows.specs.declared.row.Content.TheVariants.{Fixed, Follower, LatchingHigh, LatchingLow, Setting, SelfClearing, ShortCounter, HighHalf, LowHalf}
 use Rattle.rows.proofs.Spans.{span_within, span_one_bit}
 use Rattle.table_mmd.proofs.Stored.{Acts}
-
-abbrev pub Fits : Entry → Type 0
-Fits e = span_fits e.row ≡ true
 
 -- ---- read
 
@@ -31,16 +27,15 @@ relatched_at lines SelfClearing s p h = refl
 relatched_at lines (ShortCounter k) s p h = refl
 relatched_at lines (HighHalf k) s p h = refl
 relatched_at lines (LowHalf k) s p h = refl
-relatched_at lines Unknown s p h = refl
 
-pub relatch_acts : (lines r : ℕ) → Acts Fits (relatch lines r) (λ q b cell kept. cond (q == r) (relatched (bit lines) kept cell) kept)
+pub relatch_acts : (lines r : ℕ) → Acts (relatch lines r) (λ q b cell kept. cond (q == r) (relatched (bit lines) kept cell) kept)
 relatch_acts lines r =
     record {
       same_row = λ e. grind (arith, nat_tests);
-      at_place = λ e q b fits here.
-          let within = span_within e.row fits in
-          let small : b - e.row.low < 16 = grind (arith, nat_tests) in
-          let place = relatched_at lines (content_of e.row) e.state (b - e.row.low) small in
+      at_place = λ e q b here.
+          let within = span_within e.row.listed e.row.span_fits in
+          let small : b - e.row.listed.low < 16 = grind (arith, nat_tests) in
+          let place = relatched_at lines e.row.content e.state (b - e.row.listed.low) small in
           grind (arith, nat_tests);
       none_at_blank = λ q b. grind (arith, nat_tests);
     }
@@ -57,16 +52,15 @@ written_at w SelfClearing s p = bit_of_or w s p
 written_at w (ShortCounter k) s p = refl
 written_at w (HighHalf k) s p = refl
 written_at w (LowHalf k) s p = refl
-written_at w Unknown s p = refl
 
-pub write_acts : (r word : ℕ) → Acts Fits (write_row r word) (λ q b cell kept. cond (q == r) (written (bit word b) kept cell) kept)
+pub write_acts : (r word : ℕ) → Acts (write_row r word) (λ q b cell kept. cond (q == r) (written (bit word b) kept cell) kept)
 write_acts r word =
     record {
       same_row = λ e. grind (arith, nat_tests);
-      at_place = λ e q b fits here.
-          let over : e.row.low ≤ b = grind (arith, nat_tests) in
-          let there : bit (word / 2 ^ e.row.low) (b - e.row.low) ≡ bit word b = bit_shr word e.row.low (b - e.row.low) ∙ ap (bit word) (omega arith) in
-          let place = written_at (word / 2 ^ e.row.low) (content_of e.row) e.state (b - e.row.low) in
+      at_place = λ e q b here.
+          let over : e.row.listed.low ≤ b = grind (arith, nat_tests) in
+          let there : bit (word / 2 ^ e.row.listed.low) (b - e.row.listed.low) ≡ bit word b = bit_shr word e.row.listed.low (b - e.row.listed.low) ∙ ap (bit word) (omega arith) in
+          let place = written_at (word / 2 ^ e.row.listed.low) e.row.content e.state (b - e.row.listed.low) in
           grind (arith, nat_tests);
       none_at_blank = λ q b. grind (arith, nat_tests);
     }
@@ -83,16 +77,15 @@ moved_at n up SelfClearing s p h = refl
 moved_at n up (ShortCounter k) s p h = refl
 moved_at n up (HighHalf k) s p h = refl
 moved_at n up (LowHalf k) s p h = refl
-moved_at n up Unknown s p h = refl
 
-pub line_acts : (n : ℕ) (up : Bool) → Acts Fits (move_line n up) (λ q b cell kept. moved n up kept cell)
+pub line_acts : (n : ℕ) (up : Bool) → Acts (move_line n up) (λ q b cell kept. moved n up kept cell)
 line_acts n up =
     record {
       same_row = λ e. refl;
-      at_place = λ e q b fits here.
-          let within = span_within e.row fits in
-          let small : b - e.row.low < 16 = grind (arith, nat_tests) in
-          moved_at n up (content_of e.row) e.state (b - e.row.low) small;
+      at_place = λ e q b here.
+          let within = span_within e.row.listed e.row.span_fits in
+          let small : b - e.row.listed.low < 16 = grind (arith, nat_tests) in
+          moved_at n up e.row.content e.state (b - e.row.listed.low) small;
       none_at_blank = λ q b. refl;
     }
 
@@ -108,7 +101,6 @@ finished_at SelfClearing s p = bit_zero p
 finished_at (ShortCounter k) s p = refl
 finished_at (HighHalf k) s p = refl
 finished_at (LowHalf k) s p = refl
-finished_at Unknown s p = refl
 
 -- a self-clearing cell stands in a row of one bit
 self_clearing_one_bit : (c : Content) (p : ℕ) → is_self_clearing (cell_at c p) ≡ true → one_bit c ≡ true
@@ -121,15 +113,14 @@ self_clearing_one_bit SelfClearing p h = refl
 self_clearing_one_bit (ShortCounter k) p h = grind (arith, nat_tests)
 self_clearing_one_bit (HighHalf k) p h = grind (arith, nat_tests)
 self_clearing_one_bit (LowHalf k) p h = grind (arith, nat_tests)
-self_clearing_one_bit Unknown p h = grind (arith, nat_tests)
 
-pub finish_acts : (r b : ℕ) → Acts Fits (finish_bit r b) (λ q c cell kept. cond (q == r && c == b && is_self_clearing cell) false kept)
+pub finish_acts : (r b : ℕ) → Acts (finish_bit r b) (λ q c cell kept. cond (q == r && c == b && is_self_clearing cell) false kept)
 finish_acts r b =
     record {
       same_row = λ e. grind (arith, nat_tests);
-      at_place = λ e q c fits here.
-          let place = finished_at (content_of e.row) e.state (c - e.row.low) in
-          let single : is_self_clearing (cell_at (content_of e.row) (c - e.row.low)) ≡ true → e.row.low ≡ e.row.high = λ clearing. span_one_bit e.row fits (self_clearing_one_bit (content_of e.row) (c - e.row.low) clearing) in
+      at_place = λ e q c here.
+          let place = finished_at e.row.content e.state (c - e.row.listed.low) in
+          let single : is_self_clearing (cell_at e.row.content (c - e.row.listed.low)) ≡ true → e.row.listed.low ≡ e.row.listed.high = λ clearing. span_one_bit e.row.listed e.row.content e.row.content_listed e.row.span_fits (self_clearing_one_bit e.row.content (c - e.row.listed.low) clearing) in
           grind (arith, nat_tests);
       none_at_blank = λ q c. grind (arith, nat_tests);
     }
@@ -146,15 +137,14 @@ reset_at lines SelfClearing p h = bit_zero p
 reset_at lines (ShortCounter k) p h = refl
 reset_at lines (HighHalf k) p h = refl
 reset_at lines (LowHalf k) p h = refl
-reset_at lines Unknown p h = refl
 
-pub reset_acts : (lines : ℕ) → Acts Fits (reset_row lines) (λ q b cell kept. default_state (bit lines) cell)
+pub reset_acts : (lines : ℕ) → Acts (reset_row lines) (λ q b cell kept. default_state (bit lines) cell)
 reset_acts lines =
     record {
       same_row = λ e. refl;
-      at_place = λ e q b fits here.
-          let within = span_within e.row fits in
-          let small : b - e.row.low < 16 = grind (arith, nat_tests) in
-          reset_at lines (content_of e.row) (b - e.row.low) small;
+      at_place = λ e q b here.
+          let within = span_within e.row.listed e.row.span_fits in
+          let small : b - e.row.listed.low < 16 = grind (arith, nat_tests) in
+          reset_at lines e.row.content (b - e.row.listed.low) small;
       none_at_blank = λ q b. refl;
     }

@@ -1,12 +1,11 @@
 -- A walk over the rows that changes each: what it has left and what it finds.
-use Rattle.std.proofs.Common.{◌≡◌, ℕ, zero, suc, ◌+◌, ◌-◌, ◌<◌, ◌≤◌, Bool, true, false, ◌||◌, List, [], ◌∷◌, ◌++◌, map, length, get_or, take, drop, sym, refl, ap, ◌∙◌, ap₂, append-nil, arith, length-take}
-use Rattle.std.proofs.lemmas.List.{get_or-append_right, get_or-drop, length-map, take_all, drop_all, take_more}
-use Rattle.std.proofs.lemmas.Bool.{and_parts}
+use Rattle.std.proofs.Common.{◌≡◌, ℕ, ◌+◌, ◌-◌, ◌<◌, ◌≤◌, Bool, true, false, ◌||◌, List, [], ◌∷◌, ◌++◌, map, length, get_or, take, drop, sym, refl, ap, ◌∙◌, ap₂, subst, append_assoc, append-nil, set, arith, length-take}
+use Rattle.std.proofs.lemmas.List.{drop_all, drop_more, get_or-append_right, get_or-drop, get_or_at, length-map, length-take-le, set_at, take_all, take_more}
+use Rattle.std.proofs.lemmas.List.Elements.{all_zip_more, length_all_zip}
+use Rattle.std.specs.List.{AllZip}
 use lib.Bits.{bit_or}
 use Rattle.bits.proofs.Bits.{bit_of_or}
-use Rattle.table_mmd.specs.Entries.{HasBits, all_fit, any_shows, row_shows}
-use Rattle.rows.specs.Rows.{span_fits}
-use Rattle.rows.proofs.Spans.{zero_row}
+use Rattle.table_mmd.specs.Entries.{HasBits, any_shows, row_shows}
 use Rattle.table_mmd.specs.declared.entry.Entry.{Entry}
 use Rattle.rows.specs.declared.slot.CounterSlot.{CounterSlot}
 
@@ -21,15 +20,6 @@ not_yet_changed f xs ys i d within so_far =
 pub all_changed : {X : Type 0} (f : X → X) (xs ys : List X) (i : ℕ) → length xs ≤ i → ys ≡ map f (take i xs) ++ drop i xs → ys ≡ map f xs
 all_changed f xs ys i past so_far =
     so_far ∙ ap₂ (λ front back. map f front ++ back) (take_all i xs past) (drop_all i xs past) ∙ append-nil (map f xs)
-
-pub fits_at : (es : List Entry) (i : ℕ) (d : Entry) → all_fit es ≡ true → i < length es → span_fits (get_or es i d).row ≡ true
-fits_at [] i d fit within = absurd (omega arith)
-fits_at (e ∷ es) zero d fit within = (and_parts (span_fits e.row) (all_fit es) fit).0
-fits_at (e ∷ es) (suc i) d fit within = fits_at es i d (and_parts (span_fits e.row) (all_fit es) fit).1 (omega arith)
-
--- the element that stands at no place, as a loop writes it
-abbrev pub zero_entry : Entry
-zero_entry = record { row = zero_row; state = 0 }
 
 -- one row more
 or_assoc : (a b c : Bool) → ((a || b) || c) ≡ (a || (b || c))
@@ -52,3 +42,19 @@ pub any_shows_more : (lines : ℕ) (slots : List CounterSlot) (r : ℕ) (es : Li
 any_shows_more lines slots r es i d word more within so_far here b =
     bit_of_or word more b ∙ ap₂ ◌||◌ (so_far b) (here b) ∙ sym (any_shows_push lines slots r (take i es) (get_or es i d) b)
     ∙ ap (λ l. any_shows lines slots r l b) (sym (take_more es i d within))
+
+-- one element more of a walk that leaves R of each
+pub each_more : {X : Type 0} (R : X → X → Type 0) (xs ys front : List X) (i : ℕ) (x y : X) → i < length xs → ys ≡ front ++ drop i xs → AllZip R (take i xs) front → x ≡ get_or ys i x → R x y
+    → (next : List X) × (set ys i y ≡ next ++ drop (i + 1) xs) × AllZip R (take (i + 1) xs) next
+each_more R xs ys front i x y within so_far each here answered =
+    let long : length front ≡ i = sym (length_all_zip R (take i xs) front each) ∙ length-take-le i xs (omega arith) in
+    let parts : ys ≡ front ++ get_or xs i x ∷ drop (i + 1) xs = so_far ∙ ap (λ l. front ++ l) (drop_more xs i x within) in
+    let read : x ≡ get_or xs i x = here ∙ ap (λ l. get_or l i x) parts ∙ get_or_at front _ _ x i long in (
+      front ++ y ∷ [],
+      ap (λ l. set l i y) parts ∙ set_at front _ _ y i long ∙ sym (append_assoc front (y ∷ []) (drop (i + 1) xs)),
+      all_zip_more R xs front i x y within read each answered,
+    )
+
+pub each_changed : {X : Type 0} (R : X → X → Type 0) (xs ys front : List X) (i : ℕ) → length xs ≤ i → ys ≡ front ++ drop i xs → AllZip R (take i xs) front → AllZip R xs ys
+each_changed R xs ys front i past so_far each =
+    subst (AllZip R xs) (sym (so_far ∙ ap (λ l. front ++ l) (drop_all i xs past) ∙ append-nil front)) (subst (λ l. AllZip R l front) (take_all i xs past) each)

@@ -1,14 +1,15 @@
 -- What each call does to a row's state.
-use Rattle.std.specs.Prelude.{ℕ, ◌/◌, ◌^◌, Bool, true, false, cond, not, ◌&&◌, ◌==◌, bit_or}
+use Rattle.std.specs.Prelude.{ℕ, ◌/◌, ◌^◌, Bool, true, false, if◌then◌else◌, not, ◌&&◌, ◌==◌, bit_or}
 use Rattle.bits.specs.Bits.{bit}
-use Rattle.rows.specs.Rows.{content_of, covers}
+use Rattle.rows.specs.Rows.{covers}
 use Rattle.table_mmd.specs.declared.entry.Entry.{Entry}
+use Rattle.rows.specs.declared.fitting.FittingRow.{FittingRow}
 use Rattle.rows.specs.declared.row.Content.{Content}
-use Rattle.rows.specs.declared.row.Content.TheVariants.{Fixed, Follower, LatchingHigh, LatchingLow, Setting, SelfClearing, ShortCounter, HighHalf, LowHalf, Unknown}
+use Rattle.rows.specs.declared.row.Content.TheVariants.{Fixed, Follower, LatchingHigh, LatchingLow, Setting, SelfClearing, ShortCounter, HighHalf, LowHalf}
 
 -- a state that is one at every place, or at none
 abbrev pub alike : Bool → ℕ
-alike one = cond one 65535 0
+alike one = if one then 65535 else 0
 
 abbrev pub with_state : Entry → ℕ → Entry
 with_state e s = record { row = e.row; state = s }
@@ -25,10 +26,9 @@ relatched_state lines SelfClearing s = s
 relatched_state lines (ShortCounter k) s = s
 relatched_state lines (HighHalf k) s = s
 relatched_state lines (LowHalf k) s = s
-relatched_state lines Unknown s = s
 
 abbrev pub relatch : ℕ → ℕ → Entry → Entry
-relatch lines r e = cond (e.row.register == r) (with_state e (relatched_state lines (content_of e.row) e.state)) e
+relatch lines r e = if e.row.listed.register == r then with_state e (relatched_state lines e.row.content e.state) else e
 
 -- ---- write: w is the written word from the row's lowest bit on
 
@@ -42,28 +42,26 @@ written_state w SelfClearing s = bit_or w s
 written_state w (ShortCounter k) s = s
 written_state w (HighHalf k) s = s
 written_state w (LowHalf k) s = s
-written_state w Unknown s = s
 
 abbrev pub write_row : ℕ → ℕ → Entry → Entry
 write_row r word e =
-    cond (e.row.register == r) (with_state e (written_state (word / 2 ^ e.row.low) (content_of e.row) e.state)) e
+    if e.row.listed.register == r then with_state e (written_state (word / 2 ^ e.row.listed.low) e.row.content e.state) else e
 
 -- ---- line
 
 abbrev pub moved_state : ℕ → Bool → Content → ℕ → ℕ
 moved_state n up (Fixed v) s = s
 moved_state n up (Follower l) s = s
-moved_state n up (LatchingHigh l) s = cond (l == n && up) (alike true) s
-moved_state n up (LatchingLow l) s = cond (l == n && not up) (alike false) s
+moved_state n up (LatchingHigh l) s = if l == n && up then alike true else s
+moved_state n up (LatchingLow l) s = if l == n && not up then alike false else s
 moved_state n up (Setting d) s = s
 moved_state n up SelfClearing s = s
 moved_state n up (ShortCounter k) s = s
 moved_state n up (HighHalf k) s = s
 moved_state n up (LowHalf k) s = s
-moved_state n up Unknown s = s
 
 abbrev pub move_line : ℕ → Bool → Entry → Entry
-move_line n up e = with_state e (moved_state n up (content_of e.row) e.state)
+move_line n up e = with_state e (moved_state n up e.row.content e.state)
 
 -- ---- finish: a self-clearing row is one bit
 
@@ -77,10 +75,9 @@ finished_state SelfClearing s = 0
 finished_state (ShortCounter k) s = s
 finished_state (HighHalf k) s = s
 finished_state (LowHalf k) s = s
-finished_state Unknown s = s
 
 abbrev pub finish_bit : ℕ → ℕ → Entry → Entry
-finish_bit r b e = cond (covers e.row r b) (with_state e (finished_state (content_of e.row) e.state)) e
+finish_bit r b e = if covers e.row.listed r b then with_state e (finished_state e.row.content e.state) else e
 
 -- ---- reset
 
@@ -94,7 +91,22 @@ reset_state lines SelfClearing = 0
 reset_state lines (ShortCounter k) = 0
 reset_state lines (HighHalf k) = 0
 reset_state lines (LowHalf k) = 0
-reset_state lines Unknown = 0
 
 abbrev pub reset_row : ℕ → Entry → Entry
-reset_row lines e = with_state e (reset_state lines (content_of e.row))
+reset_row lines e = with_state e (reset_state lines e.row.content)
+
+-- ---- a row to which nothing has happened, its line down
+
+abbrev pub new_state : Content → ℕ
+new_state (Fixed v) = 0
+new_state (Follower l) = 0
+new_state (LatchingHigh l) = 0
+new_state (LatchingLow l) = 0
+new_state (Setting d) = d
+new_state SelfClearing = 0
+new_state (ShortCounter k) = 0
+new_state (HighHalf k) = 0
+new_state (LowHalf k) = 0
+
+abbrev pub new_entry : FittingRow → Entry
+new_entry row = record { row = row; state = new_state row.content }

@@ -1,5 +1,5 @@
 -- What each call does to the counters of a table.
-use Rattle.std.specs.Prelude.{ℕ, ◌+◌, min, Bool, true, cond, ◌&&◌, List, [], ◌∷◌}
+use Rattle.std.specs.Prelude.{ℕ, ◌+◌, min, Bool, true, if◌then◌else◌, ◌&&◌, List, [], ◌∷◌}
 use Rattle.mmd.specs.Cells.{top}
 use Rattle.mmd.specs.Events.{clears, holds}
 use Rattle.mmd.specs.declared.counter.Counter.{Counter}
@@ -18,8 +18,8 @@ with_counter s c = record { places = s.places; counter = c }
 abbrev pub slot_read : ℕ → CounterSlot → CounterSlot
 slot_read r s =
     with_counter s (record {
-      value = cond (clears r (field_of s.places)) 0 s.counter.value;
-      held = cond (holds r (field_of s.places)) s.counter.value s.counter.held;
+      value = if clears r (field_of s.places) then 0 else s.counter.value;
+      held = if holds r (field_of s.places) then s.counter.value else s.counter.held;
     })
 
 -- ---- count

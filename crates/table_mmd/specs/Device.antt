@@ -5,4 +5,4 @@ use Rattle.table_mmd.specs.Tables.{table_meaning}
 use Rattle.table_mmd.specs.declared.table.TableMmd.{TableMmd}
 
 abbrev pub meaning_of : TableMmd → Meaning
-meaning_of m = table_meaning (vec_items m.entries) m.lines m.slots
+meaning_of m = table_meaning (vec_items m.entries) m.live.lines m.live.slots

@@ -1,12 +1,14 @@
 -- What filling a table from rows gives.
 use Rattle.std.specs.Prelude.{◌≡◌, ◌≤◌, true, List, length, Some, None, Ok, Err, Result}
+use Rattle.std.specs.List.{AllByRecursion}
 use Rattle.mmd.specs.Invariant.{Settled}
 use Rattle.mmd.specs.Meaning.{new_meaning}
-use Rattle.table_mmd.specs.Changes.{reset_row}
+use Rattle.table_mmd.specs.Changes.{new_entry}
 use Rattle.rows.specs.Checks.{fault_of, layout_of}
 use Rattle.table_mmd.specs.Device.{meaning_of}
 use Rattle.rows.specs.Layouts.{FormsLayout}
 use Rattle.rows.specs.Orders.{rising}
+use Rattle.table_mmd.specs.Entries.{rows_of}
 use Rattle.table_mmd.specs.declared.entry.Entry.{Entry}
 use Rattle.table_mmd.specs.declared.fill.FillRefusal.{FillRefusal}
 use Rattle.table_mmd.specs.declared.fill.FillRefusal.TheVariants.{Faulty, Memory}
@@ -25,6 +27,6 @@ PassesExactly rows =
     length rows ≤ 64
     → (fault_of rows ≡ None → FormsLayout rows × (rising rows ≡ true)) × (FormsLayout rows → rising rows ≡ true → fault_of rows ≡ None)
 
--- a row to which nothing has happened
-abbrev pub new_entry : Row → Entry
-new_entry row = reset_row 0 (record { row = row; state = 0 })
+-- entries of these rows, to which nothing has happened
+abbrev pub StartsAs : List Row → List Entry → Type 0
+StartsAs rows es = (rows_of es ≡ rows) × AllByRecursion (λ e. e ≡ new_entry e.row) es

@@ -1,11 +1,11 @@
 -- What a table of rows, lines and counters means.
-use Rattle.std.specs.Prelude.{◌≡◌, ℕ, ◌-◌, Bool, true, false, cond, List, [], ◌∷◌, length, slice_index_or}
+use Rattle.std.specs.Prelude.{◌≡◌, ℕ, ◌-◌, Bool, true, false, if◌then◌else◌, List, [], ◌∷◌, length, slice_index_or}
 use Rattle.bits.specs.Bits.{bit}
 use Rattle.mmd.specs.Invariant.{Keeps}
 use Rattle.mmd.specs.Meaning.{Meaning}
-use Rattle.table_mmd.specs.Entries.{all_fit, rows_of, stored_at}
+use Rattle.table_mmd.specs.Entries.{rows_of, stored_at}
 use Rattle.rows.specs.Orders.{rising}
-use Rattle.rows.specs.Rows.{cell_of, content_of, covers}
+use Rattle.rows.specs.Rows.{cell_of, covers}
 use Rattle.table_mmd.specs.Counts.{all_narrow}
 use Rattle.rows.specs.Slots.{empty_slot, field_of}
 use Rattle.table_mmd.specs.declared.entry.Entry.{Entry}
@@ -14,7 +14,7 @@ use Rattle.rows.specs.declared.slot.CounterSlot.{CounterSlot}
 -- the state at a register and bit: that of the first row that covers it
 abbrev pub stored_of : List Entry → ℕ → ℕ → Bool
 stored_of [] r b = false
-stored_of (e ∷ es) r b = cond (covers e.row r b) (stored_at (content_of e.row) e.state (b - e.row.low)) (stored_of es r b)
+stored_of (e ∷ es) r b = if covers e.row.listed r b then stored_at e.row.content e.state (b - e.row.listed.low) else stored_of es r b
 
 unfoldable pub table_meaning : List Entry → ℕ → List CounterSlot → Meaning
 table_meaning es lines slots =
@@ -28,7 +28,6 @@ table_meaning es lines slots =
 
 -- what a table keeps at all times
 pub record Laid (es : List Entry) (lines : ℕ) (slots : List CounterSlot) : Type 0 where
-  pub fits : all_fit es ≡ true
   pub rises : rising (rows_of es) ≡ true
   pub narrow : all_narrow slots ≡ true
   pub sixteen_slots : length slots ≡ 16

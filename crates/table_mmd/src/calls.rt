@@ -3,9 +3,10 @@ ghost use Rattle.std.specs.Prelude.{◌≡◌};
 ghost use Rattle.table_mmd.specs.Device.{meaning_of};
 ghost use Rattle.table_mmd.specs.Kept.{keeps_of};
 
-use crate::change::{Finished, Moved, Reset, Written, read_all};
-use crate::counters::{ReadAt, ResetCounter, counted};
-use crate::entry::is_self_clearing;
+use crate::change::{is_self_clearing, read_all};
+use crate::counters;
+use crate::counters::counted;
+use crate::entry::Entry;
 use crate::table::TableMmd;
 use crate::walk::change_all;
 use bits::with_bit;
@@ -18,24 +19,23 @@ impl Mmd for TableMmd {
     ghost keeps_invariant = { λ m. keeps_of m.laid };
 
     fn read(&mut self, register: u16) -> u16 {
-        let word = read_all(
-            self.entries.as_mut_slice(),
-            register,
-            self.lines,
-            &self.slots,
-        );
-        change_all(&mut self.slots, &ReadAt { register });
+        let word = read_all(self.entries.as_mut_slice(), register, &self.live);
+        change_all(&mut self.live.slots, |slot| counters::read(slot, register));
         word
     }
 
     fn write(&mut self, register: u16, word: u16) {
-        change_all(self.entries.as_mut_slice(), &Written { register, word });
+        change_all(self.entries.as_mut_slice(), |entry: Entry| {
+            entry.written(register, word)
+        });
     }
 
     fn line(&mut self, number: u8, up: bool) {
         if number < 32 {
-            self.lines = with_bit(self.lines, number, up);
-            change_all(self.entries.as_mut_slice(), &Moved { number, up });
+            self.live.lines = with_bit(self.live.lines, number, up);
+            change_all(self.entries.as_mut_slice(), |entry: Entry| {
+                entry.moved(number, up)
+            });
         }
     }
 
@@ -44,9 +44,9 @@ impl Mmd for TableMmd {
         if place >= 16 {
             return Err(MmdRefusal::NoField);
         }
-        match counted(self.slots[place], amount) {
+        match counted(self.live.slots[place], amount) {
             Some(slot) => {
-                self.slots[place] = slot;
+                self.live.slots[place] = slot;
                 Ok(())
             }
             None => Err(MmdRefusal::NoField),
@@ -57,12 +57,18 @@ impl Mmd for TableMmd {
         if !is_self_clearing(self.entries.as_slice(), register, bit) {
             return Err(MmdRefusal::NotSelfClearing);
         }
-        change_all(self.entries.as_mut_slice(), &Finished { register, bit });
+        change_all(self.entries.as_mut_slice(), |entry: Entry| {
+            entry.finished(register, bit)
+        });
         Ok(())
     }
 
     fn reset(&mut self) {
-        change_all(self.entries.as_mut_slice(), &Reset { lines: self.lines });
-        change_all(&mut self.slots, &ResetCounter);
+        let live = &self.live;
+        change_all(
+            self.entries.as_mut_slice(),
+            |entry: Entry| entry.reset(live),
+        );
+        change_all(&mut self.live.slots, counters::reset);
     }
 }

@@ -1,12 +1,11 @@
 // What each call does to the counters of a table.
-ghost use Rattle.std.specs.Prelude.{◌≡◌, true, if◌then◌else◌, Some, None, slice_index_or};
+ghost use Rattle.std.specs.Prelude.{◌≡◌, true, if◌then◌else◌, Some, None};
 ghost use Rattle.mmd.specs.Cells.{has_field};
-ghost use Rattle.rows.specs.Slots.{empty_slot, field_of, narrow_short};
+ghost use Rattle.rows.specs.Slots.{field_of, narrow_short};
 ghost use Rattle.table_mmd.specs.Counts.{slot_counted, slot_read, slot_reset};
 
-use crate::walk::Change;
 use mmd::counter::Counter;
-use rows::slot::{CounterSlot, Places, slot_of};
+use rows::slot::{CounterSlot, Places};
 
 const LONG_TOP: u32 = 0xffff_ffff;
 
@@ -22,56 +21,30 @@ pub fn counted(slot: CounterSlot, amount: u16) -> Option<CounterSlot>
         _ => return None,
     };
     Some(CounterSlot {
-        places: slot.places,
         counter: slot.counter.add(amount, top),
+        ..slot
     })
 }
 
-// The counter of a number; one that is none of the table's counts nothing.
-pub fn counter_of(slots: &[CounterSlot], number: u16) -> Counter
-    ensures { result ≡ (slice_index_or slots.now number empty_slot).counter }
+// After a read of a register: a counter that shows there starts again.
+pub fn read(slot: CounterSlot, register: u16) -> CounterSlot
+    ensures { result ≡ slot_read register slot }
 {
-    slot_of(slots, number).counter
+    let Places { short, high, low } = slot.places;
+    let counter = match (short, high, low) {
+        (Some(place), _, _) if place.register == register => slot.counter.clear(),
+        (None, Some(high), Some(_)) if high == register => slot.counter.hold(),
+        _ => slot.counter,
+    };
+    CounterSlot { counter, ..slot }
 }
 
-// A read of a register: a counter that shows there starts again.
-#[derive(Clone, Copy)]
-pub struct ReadAt {
-    pub register: u16,
-}
-
-impl Change<CounterSlot> for ReadAt {
-    ghost can = { λ _. Unit {0} };
-
-    ghost changed = { λ c s. slot_read c.register s };
-
-    fn apply(&self, slot: CounterSlot) -> CounterSlot {
-        let Places { short, high, low } = slot.places;
-        let counter = match (short, high, low) {
-            (Some(place), _, _) if place.register == self.register => slot.counter.clear(),
-            (None, Some(high), Some(_)) if high == self.register => slot.counter.hold(),
-            _ => slot.counter,
-        };
-        CounterSlot {
-            places: slot.places,
-            counter,
-        }
-    }
-}
-
-// A reset of the MMD.
-#[derive(Clone, Copy)]
-pub struct ResetCounter;
-
-impl Change<CounterSlot> for ResetCounter {
-    ghost can = { λ _. Unit {0} };
-
-    ghost changed = { λ _ s. slot_reset s };
-
-    fn apply(&self, slot: CounterSlot) -> CounterSlot {
-        CounterSlot {
-            places: slot.places,
-            counter: Counter::ZERO,
-        }
+// After a reset of the MMD.
+pub fn reset(slot: CounterSlot) -> CounterSlot
+    ensures { result ≡ slot_reset slot }
+{
+    CounterSlot {
+        counter: Counter::ZERO,
+        ..slot
     }
 }

@@ -1,79 +1,131 @@
-// A row of the table with the state of its bits.
-ghost use Rattle.std.specs.Prelude.{◌≡◌, ℕ, true};
-ghost use Rattle.mmd.specs.Cells.{is_self_clearing};
-ghost use Rattle.table_mmd.specs.Entries.{HasBits, ShowsValue, row_shows, rows_of, shown_at};
-ghost use Rattle.rows.specs.Rows.{cell_at, cell_of, content_of, span_fits};
+// A row of the table with the state of its bits: what it shows, and what each call does to it.
+ghost use Rattle.std.specs.Prelude.{◌≡◌};
+ghost use Rattle.table_mmd.specs.Changes.{finish_bit, move_line, new_entry, relatch, relatched_state, reset_row, with_state, write_row};
+ghost use Rattle.table_mmd.specs.Entries.{HasBits, ShowsValue, row_shows, shown_at};
 
-use crate::counters::counter_of;
-use crate::span::put;
-use bits::{high_half, is_one, low_half, sixteen};
-use rows::row::{Content, Row};
-use rows::slot::CounterSlot;
+use crate::live::Live;
+use crate::span::{put, taken};
+use bits::{high_half, low_half, sixteen};
+use rows::fitting::FittingRow;
+use rows::row::Content;
 
-#[derive(Clone, Copy)]
+#[derive(Clone, Copy, PartialEq, Eq, Debug)]
 pub struct Entry {
-    pub row: Row,
+    pub row: FittingRow,
     // the bits of the span, from its lowest at place 0; places past the span mean nothing
     pub state: u16,
 }
 
 impl Entry {
-    pub fn with_state(self, state: u16) -> Entry
-        ensures { result ≡ record { row = self.row; state = state } }
+    // A row to which nothing has happened: its line is down.
+    pub fn new(row: FittingRow) -> Entry
+        ensures { result ≡ new_entry row }
     {
-        Entry {
-            row: self.row,
-            state,
-        }
+        let state = match row.content {
+            Content::Setting(default) => default,
+            _ => 0,
+        };
+        Entry { row, state }
+    }
+
+    fn with_state(self, state: u16) -> Entry
+        ensures { result ≡ with_state self state }
+    {
+        Entry { state, ..self }
     }
 
     // What the row shows, from its lowest bit at place 0.
-    fn value(&self, lines: u32, slots: &[CounterSlot]) -> u16
-        ensures { ShowsValue (shown_at lines slots.now (content_of self.now.row) self.now.state) result }
+    fn value(&self, live: &Live) -> u16
+        ensures { ShowsValue (shown_at live.now.lines live.now.slots self.now.row.content self.now.state) result }
     {
-        match self.row.content() {
+        match self.row.content {
             Content::Fixed(value) => value,
-            Content::Follower(line) => sixteen(is_one(lines, line)),
+            Content::Follower(line) => sixteen(live.is_up(line)),
             Content::LatchingHigh(_)
             | Content::LatchingLow(_)
             | Content::Setting(_)
             | Content::SelfClearing => self.state,
-            Content::ShortCounter(number) => low_half(counter_of(slots, number).value),
-            Content::HighHalf(number) => high_half(counter_of(slots, number).value),
-            Content::LowHalf(number) => low_half(counter_of(slots, number).held),
-            Content::Unknown => 0,
+            Content::ShortCounter(number) => low_half(live.counter(number).value),
+            Content::HighHalf(number) => high_half(live.counter(number).value),
+            Content::LowHalf(number) => low_half(live.counter(number).held),
         }
     }
 
     // What the row shows of a register, in its span, and zeros beside it; zero for another register.
-    pub fn shown(&self, register: u16, lines: u32, slots: &[CounterSlot]) -> u16
-        requires { span_fits self.now.row ≡ true }
-        ensures { HasBits (row_shows lines slots.now register self.now) result }
+    pub fn shown(&self, register: u16, live: &Live) -> u16
+        ensures { HasBits (row_shows live.now.lines live.now.slots register self.now) result }
     {
-        if self.row.register != register {
+        if self.row.listed.register != register {
             return 0;
         }
-        put(&self.row, self.value(lines, slots))
+        put(self.row.span(), self.value(live))
     }
-}
 
-// Whether the bit is self-clearing.
-pub fn is_self_clearing(entries: &[Entry], register: u16, bit: u8) -> bool
-    ensures { result ≡ is_self_clearing (cell_of (rows_of entries.now) register bit) }
-{
-    for entry in entries {
-        if entry.row.covers(register, bit) {
-            return clears_itself(entry.row.content());
+    // A latch takes the state of its line.
+    fn relatched(self, live: &Live) -> Entry
+        ensures { result ≡ with_state self (relatched_state live.now.lines self.row.content self.state) }
+    {
+        match self.row.content {
+            Content::LatchingHigh(line) | Content::LatchingLow(line) => {
+                self.with_state(sixteen(live.is_up(line)))
+            }
+            _ => self,
         }
     }
-    false
-}
 
-fn clears_itself(content: Content) -> bool
-    ensures { (p : ℕ) → result ≡ is_self_clearing (cell_at content p) }
-{
-    match content {
-        Content::SelfClearing => true,
-        _ => false,
+    // After a read of a register.
+    pub fn read(self, register: u16, live: &Live) -> Entry
+        ensures { result ≡ relatch live.now.lines register self }
+    {
+        if self.row.listed.register != register {
+            return self;
+        }
+        self.relatched(live)
+    }
+
+    // After a write: the settings and self-clearing bits of the register take the word.
+    pub fn written(self, register: u16, word: u16) -> Entry
+        ensures { result ≡ write_row register word self }
+    {
+        if self.row.listed.register != register {
+            return self;
+        }
+        let state = taken(self.row.span(), word);
+        match self.row.content {
+            Content::Setting(_) => self.with_state(state),
+            Content::SelfClearing => self.with_state(state | self.state),
+            _ => self,
+        }
+    }
+
+    // After a line has gone up or down.
+    pub fn moved(self, number: u8, up: bool) -> Entry
+        ensures { result ≡ move_line number up self }
+    {
+        let number = u16::from(number);
+        match self.row.content {
+            Content::LatchingHigh(line) if line == number && up => self.with_state(sixteen(true)),
+            Content::LatchingLow(line) if line == number && !up => self.with_state(sixteen(false)),
+            _ => self,
+        }
+    }
+
+    // After a self-clearing bit is cleared at a register and bit.
+    pub fn finished(self, register: u16, bit: u8) -> Entry
+        ensures { result ≡ finish_bit register bit self }
+    {
+        if !self.row.listed.covers(register, bit) {
+            return self;
+        }
+        match self.row.content {
+            Content::SelfClearing => self.with_state(0),
+            _ => self,
+        }
+    }
+
+    pub fn reset(self, live: &Live) -> Entry
+        ensures { result ≡ reset_row live.now.lines self }
+    {
+        Entry::new(self.row).relatched(live)
     }
 }

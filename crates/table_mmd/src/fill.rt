@@ -1,30 +1,33 @@
 // Filling a table from rows.
-ghost use Rattle.std.specs.Prelude.{◌≡◌, true, map, IfOk};
+ghost use Rattle.std.specs.Prelude.{◌≡◌, IfOk};
 ghost use Rattle.std.specs.List.{AllByRecursion};
-ghost use Rattle.table_mmd.specs.Fills.{Filled, PassesExactly, new_entry};
-ghost use Rattle.rows.specs.Rows.{span_fits};
+ghost use Rattle.table_mmd.specs.Fills.{Filled, PassesExactly, StartsAs};
+ghost use Rattle.rows.specs.Layouts.{WellFormed};
 ghost use Rattle.table_mmd.specs.declared.fill.FillRefusal.TheVariants.{Faulty, Memory};
 
-use crate::change::Reset;
 use crate::entry::Entry;
+use crate::live::Live;
 use crate::table::TableMmd;
-use crate::walk::Change;
+use fault_at::FaultAt;
 use rows::check::check;
-use rows::fault::FaultAt;
+use rows::fault::TableFault;
+use rows::fitting::FittingRow;
 use rows::row::Row;
 use std::alloc::{AllocError, Global};
+use thiserror::Error;
 
-#[derive(Clone, Copy)]
+#[derive(Clone, Copy, PartialEq, Eq, Debug, Error)]
 pub enum FillRefusal {
-    Faulty(FaultAt),
-    // no memory for the rows
+    #[error("{0}")]
+    Faulty(FaultAt<TableFault>),
+    #[error("no memory for the rows")]
     Memory,
 }
 
-impl From<FaultAt> for FillRefusal {
+impl From<FaultAt<TableFault>> for FillRefusal {
     ghost from_gives = { λ f r. r ≡ Faulty f };
 
-    fn from(fault: FaultAt) -> FillRefusal {
+    fn from(fault: FaultAt<TableFault>) -> FillRefusal {
         FillRefusal::Faulty(fault)
     }
 }
@@ -45,25 +48,19 @@ impl TableMmd {
     {
         let slots = check(rows)?;
         let entries = new_entries(heap, rows)?;
-        Ok(TableMmd {
-            entries,
-            lines: 0,
-            slots,
-        })
+        let live = Live { lines: 0, slots };
+        Ok(TableMmd { entries, live })
     }
 }
 
+// An entry for each row; each has passed the check, so none is refused here.
 fn new_entries(heap: Global, rows: &[Row]) -> Result<Vec<Entry>, AllocError>
-    requires { AllByRecursion (λ row. span_fits row ≡ true) rows.now }
-    ensures { IfOk result (λ v. v.items ≡ map new_entry rows.now) }
+    requires { AllByRecursion WellFormed rows.now }
+    ensures { IfOk result (λ v. StartsAs rows.now v.items) }
 {
-    let start = Reset { lines: 0 };
     let mut entries = Vec::with_capacity(heap, rows.len())?;
     for row in rows {
-        entries.push_reserved(start.apply(Entry {
-            row: *row,
-            state: 0,
-        }));
+        entries.push_reserved(Entry::new(FittingRow::try_from(*row).unwrap()));
     }
     Ok(entries)
 }

@@ -6,6 +6,7 @@ mod change;
 mod counters;
 mod entry;
 pub mod fill;
+mod live;
 mod span;
 pub mod table;
 mod walk;

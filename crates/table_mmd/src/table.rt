@@ -2,12 +2,11 @@
 ghost use Rattle.table_mmd.specs.Tables.{Laid};
 
 use crate::entry::Entry;
-use rows::slot::CounterSlot;
+use crate::live::Live;
 
 #[derive(Drop)]
 pub struct TableMmd {
     pub(crate) entries: Vec<Entry>,
-    pub(crate) lines: u32,
-    pub(crate) slots: [CounterSlot; 16],
-    ghost laid: { ∥ Laid entries.items lines slots ∥₁ },
+    pub(crate) live: Live,
+    ghost laid: { ∥ Laid entries.items live.lines live.slots ∥₁ },
 }

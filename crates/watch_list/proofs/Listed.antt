@@ -9,7 +9,7 @@ use Rattle.watch_list.specs.Lists.{WellFormed, WellListed}
 use Rattle.watch_list.specs.declared.entry.Entry.{Entry}
 use Rattle.watch_list.specs.declared.entry.Entry.TheVariants.{Latch, Count}
 use Rattle.watch_list.specs.declared.fault.ListFault.{ListFault}
-use Rattle.watch_list.specs.declared.fault.ListFaultAt.{ListFaultAt}
+use Rattle.fault_at.specs.declared.FaultAt.{FaultAt}
 
 -- ---- an entry by itself
 
@@ -73,7 +73,7 @@ fault_parts earlier e free = (grind (arith, nat_tests), grind (arith, nat_tests)
 
 -- ---- the walk
 
-refusal_parts : (fault : Option ListFault) (place : ℕ) (behind : Result (Unit {0}) ListFaultAt) → refused_at fault place behind ≡ Ok tt → (fault ≡ None) × (behind ≡ Ok tt)
+refusal_parts : (fault : Option ListFault) (place : ℕ) (behind : Result (Unit {0}) (FaultAt ListFault)) → refused_at fault place behind ≡ Ok tt → (fault ≡ None) × (behind ≡ Ok tt)
 refusal_parts None place behind passes = (refl, passes)
 refusal_parts (Some f) place behind passes = let clash : ◌≡◌ {A = ℕ} 0 1 = cc in absurd (omega arith)
 

@@ -8,7 +8,7 @@ use Rattle.watch_list.specs.declared.entry.Entry.{Entry}
 use Rattle.watch_list.specs.declared.entry.Entry.TheVariants.{Latch, Count}
 use Rattle.watch_list.specs.declared.fault.ListFault.{ListFault}
 use Rattle.watch_list.specs.declared.fault.ListFault.TheVariants.{TooManyEntries, Malformed, RegisterTaken}
-use Rattle.watch_list.specs.declared.fault.ListFaultAt.{ListFaultAt}
+use Rattle.fault_at.specs.declared.FaultAt.{FaultAt}
 
 -- the refusals' numbers on the card
 abbrev pub number_of : ListFault → ℕ
@@ -40,17 +40,17 @@ entry_fault earlier e = if well_formed e then (if is_taken earlier e then Some R
 
 -- ---- the tests of a list
 
-abbrev pub refused_at : Option ListFault → ℕ → Result (Unit {0}) ListFaultAt → Result (Unit {0}) ListFaultAt
+abbrev pub refused_at : Option ListFault → ℕ → Result (Unit {0}) (FaultAt ListFault) → Result (Unit {0}) (FaultAt ListFault)
 refused_at None place behind = behind
 refused_at (Some f) place behind = Err (record { fault = f; place = place })
 
 -- the entries behind the earlier ones
-abbrev pub check_behind : List Entry → List Entry → Result (Unit {0}) ListFaultAt
+abbrev pub check_behind : List Entry → List Entry → Result (Unit {0}) (FaultAt ListFault)
 check_behind earlier [] = Ok tt
 check_behind earlier (e ∷ rest) = refused_at (entry_fault earlier e) (length earlier) (check_behind (earlier ++ (e ∷ [])) rest)
 
 -- what a list is refused for: 20, then 21 and 22 entry by entry
-unfoldable pub check_of : List Entry → Result (Unit {0}) ListFaultAt
+unfoldable pub check_of : List Entry → Result (Unit {0}) (FaultAt ListFault)
 check_of entries =
     if nat_lt 16 (length entries) then Err (record { fault = TooManyEntries; place = 16 }) else check_behind [] entries
 

@@ -3,7 +3,8 @@ ghost use Rattle.std.specs.Prelude.{◌≡◌, not, length, ◌==◌, bit_and, n
 ghost use Rattle.watch_list.specs.Checks.{check_of, clashes, entry_fault, is_taken, shares_register, well_formed, PassesExactly};
 
 use crate::entry::{CountEntry, Entry, LatchEntry};
-use crate::fault::{ListFault, ListFaultAt};
+use crate::fault::ListFault;
+use fault_at::FaultAt;
 
 const MOST_ENTRIES: usize = 16;
 
@@ -73,12 +74,12 @@ fn too_many(entries: &[Entry]) -> bool
 }
 
 // Whether a watch list is in order, or what is wrong with it first.
-pub fn check(entries: &[Entry]) -> Result<(), ListFaultAt>
+pub fn check(entries: &[Entry]) -> Result<(), FaultAt<ListFault>>
     ensures answer { result ≡ check_of entries.now }
     ensures passes_exactly { PassesExactly entries.now }
 {
     if too_many(entries) {
-        return Err(ListFaultAt {
+        return Err(FaultAt {
             fault: ListFault::TooManyEntries,
             place: MOST_ENTRIES,
         });
@@ -86,7 +87,7 @@ pub fn check(entries: &[Entry]) -> Result<(), ListFaultAt>
     // by the index, which is the place of the fault and bounds the earlier entries
     for (place, entry) in entries.iter().enumerate() {
         if let Some(fault) = entry_fault(&entries[..place], entry) {
-            return Err(ListFaultAt { fault, place });
+            return Err(FaultAt { fault, place });
         }
     }
     Ok(())

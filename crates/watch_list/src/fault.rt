@@ -22,11 +22,3 @@ impl ListFault {
         self as u8
     }
 }
-
-// A fault, and the place of the first entry too many or at fault, from 0.
-#[derive(Clone, Copy, PartialEq, Eq, Debug, Error)]
-#[error("entry {place}: {fault}")]
-pub struct ListFaultAt {
-    pub fault: ListFault,
-    pub place: usize,
-}

@@ -13,7 +13,7 @@ returns-in_err-slots c =
 
 pub returns-in-Some : goal.returns-in-Some
 returns-in-Some c =
-    fault_by_slots c.args.rows.now c.in_ok-slots.slots (Some c.in-Some.fault) c.if-too_many.ensures c.in_ok-slots.ensures c.in-Some.ensures
+    fault_by_slots c.args.rows.now c.in_ok-slots.slots (Some c.in-Some.place) c.if-too_many.ensures c.in_ok-slots.ensures c.in-Some.ensures
 
 pub returns-in-None : goal.returns-in-None
 returns-in-None c = (

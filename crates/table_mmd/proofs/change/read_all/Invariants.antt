@@ -6,5 +6,5 @@ use Rattle.table_mmd.proofs.change.read_all.Given as goal
 abbrev pub invariant-loop-entry : goal.invariant-loop-entry
 invariant-loop-entry l =
     (l.entry-index ≤ length l.initial.entries)
-    × (l.entries ≡ map (relatch l.lines l.register) (take l.entry-index l.initial.entries) ++ drop l.entry-index l.initial.entries)
-    × HasBits (any_shows l.lines l.slots l.register (take l.entry-index l.initial.entries)) l.word
+    × (l.entries ≡ map (relatch l.live.lines l.register) (take l.entry-index l.initial.entries) ++ drop l.entry-index l.initial.entries)
+    × HasBits (any_shows l.live.lines l.live.slots l.register (take l.entry-index l.initial.entries)) l.word

@@ -1,7 +1,9 @@
-use Rattle.std.proofs.Common.{◌≡◌, ◌≤◌, ◌++◌, map, length, take, drop}
+use Rattle.std.proofs.Common.{◌≡◌, ◌≤◌, ◌++◌, length, take, drop}
+use Rattle.std.specs.List.{AllZip}
 use Rattle.table_mmd.proofs.walk.change_all.Given as goal
 
 abbrev pub invariant-loop-item : goal.invariant-loop-item
 invariant-loop-item g l =
-    (l.item-index ≤ length l.initial.items)
-    × (l.items ≡ map (g.C.Change.changed l.change) (take l.item-index l.initial.items) ++ drop l.item-index l.initial.items)
+    goal.F-IsAlwaysCallable g l.change
+    × (l.item-index ≤ length l.initial.items)
+    × ((front : _) × (l.items ≡ front ++ drop l.item-index l.initial.items) × AllZip (goal.F-post g l.change) (take l.item-index l.initial.items) front)

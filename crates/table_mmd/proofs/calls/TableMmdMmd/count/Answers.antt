@@ -10,7 +10,7 @@ use Rattle.table_mmd.specs.Counts.{slot_counted}
 use Rattle.rows.specs.Slots.{empty_slot, field_of}
 use Rattle.table_mmd.specs.Tables.{Laid, table_meaning}
 use Rattle.table_mmd.proofs.After.{count_means}
-use Rattle.table_mmd.proofs.Laid.{all_fits_of, narrow_of, narrow_at, slots_of, count_laid}
+use Rattle.table_mmd.proofs.Laid.{narrow_of, narrow_at, slots_of, count_laid}
 use Rattle.table_mmd.proofs.calls.TableMmdMmd.count.Goals as goal
 
 pub returns-then-place-ge16 : goal.returns-then-place-ge16
@@ -18,34 +18,34 @@ unfolding count_answer table_meaning
 returns-then-place-ge16 c =
     let t = c.args.self.now in
     let long = slots_of t.laid in
-    let past = get_or_past t.slots c.args.counter empty_slot (omega arith) in
+    let past = get_or_past t.live.slots c.args.counter empty_slot (omega arith) in
     record { answer = ap (λ s. cond (has_field (field_of s.places)) (Ok tt) (Err NoField)) (sym past); after = refl }
 
 pub counted-requires : goal.counted-requires
-counted-requires c = narrow_at c.args.self.now.slots c.from-place.result (narrow_of c.args.self.now.laid)
+counted-requires c = narrow_at c.args.self.now.live.slots c.from-place.result (narrow_of c.args.self.now.laid)
 
 pub invariant_of-self : goal.invariant_of-self
 invariant_of-self c =
     let t = c.args.self.now in
     let k = c.from-place.result in
-    let within : k < length t.slots = let long = slots_of t.laid in omega arith in
+    let within : k < length t.live.slots = let long = slots_of t.laid in omega arith in
     let told = c.in-Some.ensures in
-    let counted : c.in-Some.slot ≡ slot_counted c.args.amount (get_or t.slots k empty_slot) = grind (arith, nat_tests) in
-    record { laid = subst (λ s. ∥ Laid (vec_items t.entries) t.lines (set t.slots k s) ∥₁) (sym counted) (∥∥₁_map t.laid (λ laid. count_laid _ _ _ laid k c.args.amount within)) }
+    let counted : c.in-Some.slot ≡ slot_counted c.args.amount (get_or t.live.slots k empty_slot) = grind (arith, nat_tests) in
+    record { laid = subst (λ s. ∥ Laid (vec_items t.entries) t.live.lines (set t.live.slots k s) ∥₁) (sym counted) (∥∥₁_map t.laid (λ laid. count_laid _ _ _ laid k c.args.amount within)) }
 
 pub returns-in-Some : goal.returns-in-Some
 unfolding count_answer table_meaning
 returns-in-Some c =
     let t = c.args.self.now in
     let k = c.from-place.result in
-    let within : k < length t.slots = let long = slots_of t.laid in omega arith in
+    let within : k < length t.live.slots = let long = slots_of t.laid in omega arith in
     let told = c.in-Some.ensures in
-    let counted : c.in-Some.slot ≡ slot_counted c.args.amount (get_or t.slots k empty_slot) = grind (arith, nat_tests) in
+    let counted : c.in-Some.slot ≡ slot_counted c.args.amount (get_or t.live.slots k empty_slot) = grind (arith, nat_tests) in
     record {
       answer = grind (arith, nat_tests);
-      after = ap (λ s. table_meaning (vec_items t.entries) t.lines (set t.slots k s)) counted
-          ∙ count_means (vec_items t.entries) (all_fits_of t.laid) t.lines t.slots k c.args.amount within
-          ∙ ap (λ n. after_count (table_meaning (vec_items t.entries) t.lines t.slots) n c.args.amount) c.from-place.ensures;
+      after = ap (λ s. table_meaning (vec_items t.entries) t.live.lines (set t.live.slots k s)) counted
+          ∙ count_means (vec_items t.entries) t.live.lines t.live.slots k c.args.amount within
+          ∙ ap (λ n. after_count (table_meaning (vec_items t.entries) t.live.lines t.live.slots) n c.args.amount) c.from-place.ensures;
     }
 
 pub returns-in-None : goal.returns-in-None

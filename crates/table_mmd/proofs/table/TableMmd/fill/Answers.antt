@@ -1,12 +1,10 @@
-use Rattle.std.proofs.Common.{sym, ap, ◌∙◌, subst}
+use Rattle.std.proofs.Common.{sym, subst}
 use Rattle.std.proofs.lemmas.Result.{err_from_is_err_and}
 use Rattle.mmd.proofs.Kept.{new_settled}
 use Rattle.mmd.specs.Invariant.{Settled}
 use Rattle.rows.specs.Checks.{layout_of}
-use Rattle.table_mmd.specs.Tables.{Laid, table_meaning}
 use Rattle.table_mmd.proofs.Filled.{new_laid, new_means}
-use Rattle.rows.proofs.Formed.{passes_exactly}
-use Rattle.rows.proofs.Passing.{passing_fits}
+use Rattle.rows.proofs.Formed.{passes_exactly, passing_well_formed}
 use Rattle.table_mmd.proofs.table.TableMmd.fill.Goals as goal
 
 pub returns-in_err-slots : goal.returns-in_err-slots
@@ -15,7 +13,7 @@ returns-in_err-slots c =
     record { filled = rw (exit.1, exit.2) c.in_err-slots.ensures; passes_exactly = passes_exactly c.args.rows.now }
 
 pub new_entries-requires : goal.new_entries-requires
-new_entries-requires c = passing_fits c.args.rows.now c.in_ok-slots.ensures.0
+new_entries-requires c = passing_well_formed c.args.rows.now c.in_ok-slots.ensures.0
 
 pub returns-in_err-entries : goal.returns-in_err-entries
 returns-in_err-entries c =
@@ -24,17 +22,14 @@ returns-in_err-entries c =
 
 pub invariant_of-result : goal.invariant_of-result
 invariant_of-result c =
-    let rows = c.args.rows.now in
-    let slots = c.in_ok-slots.slots in
     let passed = c.in_ok-slots.ensures in
-    record { laid = ∣ subst (λ es. Laid es 0 slots) (sym c.in_ok-entries.ensures) (new_laid rows slots passed.0 passed.1) ∣₁ }
+    record { laid = ∣ new_laid c.args.rows.now _ c.in_ok-slots.slots passed.0 c.in_ok-entries.ensures passed.1 ∣₁ }
 
 pub returns : goal.returns
 returns c =
     let rows = c.args.rows.now in
-    let slots = c.in_ok-slots.slots in
     let passed = c.in_ok-slots.ensures in
-    let means = ap (λ es. table_meaning es 0 slots) c.in_ok-entries.ensures ∙ new_means rows slots (passing_fits rows passed.0) passed.1 in
+    let means = new_means rows _ c.in_ok-slots.slots c.in_ok-entries.ensures passed.1 in
     record {
       filled = (passed.0, means, subst Settled (sym means) (new_settled (layout_of rows)));
       passes_exactly = passes_exactly rows;
