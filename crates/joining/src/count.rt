@@ -15,7 +15,7 @@ impl Joining for CountWord {
 
     const EMPTY: CountWord = CountWord { sum: 0 };
 
-    ghost empty = { count_empty };
+    ghost EMPTY = { count_empty };
 
     ghost joined = { count_joined };
 
@@ -30,10 +30,6 @@ impl Joining for CountWord {
     ghost empty_after = { unfold count_joined in Prim.search rules };
 
     ghost empty_fits = { Prim.search rules };
-
-    fn empty_word() -> CountWord {
-        Self::EMPTY
-    }
 
     fn word_of(reading: u32) -> CountWord {
         CountWord { sum: reading }

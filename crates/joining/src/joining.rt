@@ -8,7 +8,7 @@ pub trait Joining: Copy {
     // the word that owes nothing
     const EMPTY: Self;
 
-    ghost empty: { Self };
+    ghost EMPTY: { Self };
 
     ghost joined: { Self → Self → Self };
 
@@ -17,10 +17,6 @@ pub trait Joining: Copy {
 
     // the words that there are: a law ranges over all numbers, a word's parts are some bits wide
     ghost fits: { Self → Type 0 };
-
-    // The constant, under a contract that generic code can go by.
-    fn empty_word() -> Self
-        ensures { result ≡ empty };
 
     fn word_of(reading: Self::Reading) -> Self
         ensures value { result ≡ word reading }
@@ -32,9 +28,9 @@ pub trait Joining: Copy {
 
     ghost associative: { (a b c : Self) → joined (joined a b) c ≡ joined a (joined b c) };
 
-    ghost empty_before: { (a : Self) → fits a → joined empty a ≡ a };
+    ghost empty_before: { (a : Self) → fits a → joined EMPTY a ≡ a };
 
-    ghost empty_after: { (a : Self) → fits a → joined a empty ≡ a };
+    ghost empty_after: { (a : Self) → fits a → joined a EMPTY ≡ a };
 
-    ghost empty_fits: { fits empty };
+    ghost empty_fits: { fits EMPTY };
 }

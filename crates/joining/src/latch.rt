@@ -21,7 +21,7 @@ impl Joining for LatchWord {
         all: 0xffff,
     };
 
-    ghost empty = { latch_empty };
+    ghost EMPTY = { latch_empty };
 
     ghost joined = { latch_joined };
 
@@ -36,10 +36,6 @@ impl Joining for LatchWord {
     ghost empty_after = { latch_after };
 
     ghost empty_fits = { Prim.search rules };
-
-    fn empty_word() -> LatchWord {
-        Self::EMPTY
-    }
 
     fn word_of(reading: u16) -> LatchWord {
         LatchWord {

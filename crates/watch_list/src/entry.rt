@@ -18,6 +18,7 @@ pub struct LatchEntry {
 
 impl LatchEntry {
     // What a word tells under the masks: the OR under the high mask, the AND under the low mask.
+    #[tactic(auto, unfolding(crate::specs::Watches::latch_told))]
     pub fn told(&self, word: LatchWord) -> u16
         ensures { result ≡ latch_told self.now word }
     {

@@ -4,7 +4,6 @@ ghost use Rattle.watch_list.specs.Watches.{after_look, entry_of, new_watched, ta
 
 use crate::entry::Entry;
 use crate::watch::{Watch, Watched};
-use joining::spread::spread;
 use std::alloc::{AllocError, Global};
 
 // what a one in the high half counts
@@ -31,21 +30,20 @@ impl Watched {
     }
 
     // Every watcher's word takes a reading in: of the entry's register, or of its high half with the low one.
+    #[tactic(auto, unfolding(crate::specs::Watches::taken_in))]
     pub fn take_in(&mut self, word: u16, low: u16)
         ensures { self.new ≡ taken_in word low self.old }
     {
         match self {
-            Watched::Latch(watch) => spread(&mut watch.words, word),
+            Watched::Latch(watch) => watch.take_in(word),
             Watched::Count(watch) => {
-                spread(
-                    &mut watch.words,
-                    HIGH_WEIGHT * u32::from(word) + u32::from(low),
-                )
+                watch.take_in(HIGH_WEIGHT * u32::from(word) + u32::from(low))
             }
         }
     }
 
     // What the watcher is owed, which is then nothing. A watcher above 7 is told what an empty word tells.
+    #[tactic(auto, unfolding(crate::specs::Watches::told, crate::specs::Watches::after_look))]
     pub fn look(&mut self, watcher: u8) -> u32
         ensures word { result ≡ told watcher self.old }
         ensures after { self.new ≡ after_look watcher self.old }
