@@ -9,7 +9,8 @@ use rows::slot::{CounterSlot, Places};
 
 const LONG_TOP: u32 = 0xffff_ffff;
 
-// The slot with some events more, if the counter has a field.
+// The slot with some events more, if the counter has a field. That a short field is narrow is asked here alone: in a ghost
+// field every slot that the specs write down, of rows that need not fit, would hold a proof of it.
 pub fn counted(slot: CounterSlot, amount: u16) -> Option<CounterSlot>
     requires { narrow_short slot.places.short ≡ true }
     ensures { result ≡ (if has_field (field_of slot.places) then Some (slot_counted amount slot) else None) }

@@ -58,6 +58,7 @@ fn new_entries(heap: Global, rows: &[Row]) -> Result<Vec<Entry>, AllocError>
     requires { AllByRecursion WellFormed rows.now }
     ensures { IfOk result (λ v. StartsAs rows.now v.items) }
 {
+    // A loop, not map and collect: that each row fits is then read off the loop, and a closure would have to be shown it.
     let mut entries = Vec::with_capacity(heap, rows.len())?;
     for row in rows {
         entries.push_reserved(Entry::new(FittingRow::try_from(*row).unwrap()));
