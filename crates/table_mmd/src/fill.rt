@@ -42,6 +42,7 @@ impl From<AllocError> for FillRefusal {
 
 impl TableMmd {
     // An MMD of exactly these rows, with its lines down and settled.
+    #[tactic(auto, using(rows::proofs::Formed::passes_exactly, rows::proofs::Formed::passing_well_formed))]
     pub fn fill(heap: Global, rows: &[Row]) -> Result<TableMmd, FillRefusal>
         ensures filled { Filled rows.now result }
         ensures passes_exactly { PassesExactly rows.now }
