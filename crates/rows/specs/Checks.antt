@@ -1,14 +1,14 @@
 -- Which tables of rows are refused: rows are tested one after another from the first, each by the rules in their order.
-use Rattle.std.specs.Prelude.{◌≡◌, ℕ, ◌+◌, ◌-◌, Bool, true, false, if◌then◌else◌, not, ◌&&◌, ◌||◌, List, [], ◌∷◌, ◌++◌, length, is_some, Some, None, Ok, Err, Option, Result, ◌==◌, nat_le, nat_lt, slice_index_or}
+use Rattle.std.specs.Prelude.{◌≡◌, ℕ, ◌+◌, Bool, true, false, if◌then◌else◌, ◌&&◌, List, [], ◌∷◌, ◌++◌, length, Some, None, Ok, Err, Option, Result, ◌==◌, nat_le, nat_lt, slice_index_or}
 use Rattle.mmd.specs.Meaning.{Layout}
 use Rattle.rows.specs.Rows.{cell_of, content_of, if_listed, number_fits, span_fits}
+use Rattle.rows.specs.Parts.{by_part, counter_named, lacks_partner, part_place, part_taken}
 use Rattle.rows.specs.Slots.{empty_slot, field_of, nowhere}
 use Rattle.rows.specs.Orders.{in_order}
 use Rattle.fault_at.specs.declared.FaultAt.{FaultAt}
 use Rattle.rows.specs.declared.fault.TableFault.{TableFault}
 use Rattle.rows.specs.declared.fault.TableFault.TheVariants.{TooManyRows, Kind, Span, Number, Order, Counter, Partner}
 use Rattle.rows.specs.declared.row.Content.{Content}
-use Rattle.rows.specs.declared.row.Content.TheVariants.{Fixed, Follower, LatchingHigh, LatchingLow, Setting, SelfClearing, ShortCounter, HighHalf, LowHalf}
 use Rattle.rows.specs.declared.row.Row.{Row}
 use Rattle.rows.specs.declared.slot.Places.{Places}
 use Rattle.rows.specs.declared.slot.CounterSlot.{CounterSlot}
@@ -16,16 +16,7 @@ use Rattle.rows.specs.declared.slot.CounterSlot.{CounterSlot}
 -- ---- where the rows place a counter
 
 abbrev pub place_as : Row → Content → ℕ → Places
-place_as row (Fixed v) k = nowhere
-place_as row (Follower l) k = nowhere
-place_as row (LatchingHigh l) k = nowhere
-place_as row (LatchingLow l) k = nowhere
-place_as row (Setting d) k = nowhere
-place_as row SelfClearing k = nowhere
-place_as row (ShortCounter n) k =
-    if n == k then record { short = Some (record { register = row.register; low = row.low; width = row.high + 1 - row.low }); high = None; low = None } else nowhere
-place_as row (HighHalf n) k = if n == k then record { short = None; high = Some row.register; low = None } else nowhere
-place_as row (LowHalf n) k = if n == k then record { short = None; high = None; low = Some row.register } else nowhere
+place_as row content k = by_part nowhere (λ n part. if n == k then part_place row part else nowhere) (counter_named content)
 
 abbrev pub place_in : Row → ℕ → Places
 place_in row k = if_listed nowhere (λ content. place_as row content k) (content_of row)
@@ -58,15 +49,7 @@ follows (a ∷ b ∷ rest) row = follows (b ∷ rest) row
 
 -- the counter has a field, and this is not its missing half
 abbrev pub taken_as : Content → (ℕ → Places) → Bool
-taken_as (Fixed v) p = false
-taken_as (Follower l) p = false
-taken_as (LatchingHigh l) p = false
-taken_as (LatchingLow l) p = false
-taken_as (Setting d) p = false
-taken_as SelfClearing p = false
-taken_as (ShortCounter k) p = is_some (p k).short || (is_some (p k).high || is_some (p k).low)
-taken_as (HighHalf k) p = is_some (p k).short || is_some (p k).high
-taken_as (LowHalf k) p = is_some (p k).short || is_some (p k).low
+taken_as content p = by_part false (λ n part. part_taken (p n) part) (counter_named content)
 
 abbrev pub is_taken : Row → (ℕ → Places) → Bool
 is_taken row p = if_listed false (λ content. taken_as content p) (content_of row)
@@ -93,15 +76,7 @@ first_fault earlier (row ∷ rest) = or_else (located (row_fault earlier row) (l
 
 -- a half whose other half is in no row
 abbrev pub partnerless_as : Content → (ℕ → Places) → Bool
-partnerless_as (Fixed v) p = false
-partnerless_as (Follower l) p = false
-partnerless_as (LatchingHigh l) p = false
-partnerless_as (LatchingLow l) p = false
-partnerless_as (Setting d) p = false
-partnerless_as SelfClearing p = false
-partnerless_as (ShortCounter k) p = false
-partnerless_as (HighHalf k) p = not (is_some (p k).low)
-partnerless_as (LowHalf k) p = not (is_some (p k).high)
+partnerless_as content p = by_part false (λ n part. lacks_partner (p n) part) (counter_named content)
 
 abbrev pub is_partnerless : Row → (ℕ → Places) → Bool
 is_partnerless row p = if_listed false (λ content. partnerless_as content p) (content_of row)

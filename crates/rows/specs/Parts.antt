@@ -19,6 +19,11 @@ counter_named (ShortCounter k) = Some (k, Short)
 counter_named (HighHalf k) = Some (k, High)
 counter_named (LowHalf k) = Some (k, Low)
 
+-- what is said by that counter and part, and what where none is named
+abbrev pub by_part : {X : Type 0} → X → (ℕ → Part → X) → Option (ℕ × Part) → X
+by_part other said None = other
+by_part other said (Some named) = said named.0 named.1
+
 -- where a row has a part of a counter
 abbrev pub part_place : Row → Part → Places
 part_place row Short =

@@ -44,13 +44,8 @@ impl Mmd for TableMmd {
         if place >= 16 {
             return Err(MmdRefusal::NoField);
         }
-        match counted(self.live.slots[place], amount) {
-            Some(slot) => {
-                self.live.slots[place] = slot;
-                Ok(())
-            }
-            None => Err(MmdRefusal::NoField),
-        }
+        self.live.slots[place] = counted(self.live.slots[place], amount)?;
+        Ok(())
     }
 
     fn finish(&mut self, register: u16, bit: u8) -> Result<(), MmdRefusal> {

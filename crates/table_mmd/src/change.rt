@@ -11,7 +11,7 @@ use crate::entry::Entry;
 use crate::live::Live;
 use rows::row::Content;
 
-// What the rows show of a register; its latches then equal their lines.
+// What the rows show of a register; its latches then equal their lines. One walk of its own, since it gathers a word too.
 pub fn read_all(entries: &mut [Entry], register: u16, live: &Live) -> u16
     ensures shown { HasBits (any_shows live.now.lines live.now.slots register entries.old) result }
     ensures after { entries.new ≡ map (relatch live.now.lines register) entries.old }

@@ -35,6 +35,7 @@ impl Entry {
     }
 
     // What the row shows, from its lowest bit at place 0.
+    #[tactic(auto, using(bits::proofs::Bits::bit_sixteen, bits::proofs::Bits::bit_low, bits::proofs::Bits::bit_high))]
     fn value(&self, live: &Live) -> u16
         ensures { ShowsValue (shown_at live.now.lines live.now.slots self.now.row.content self.now.state) result }
     {
@@ -52,6 +53,7 @@ impl Entry {
     }
 
     // What the row shows of a register, in its span, and zeros beside it; zero for another register.
+    #[tactic(auto, using(bits::proofs::Bits::bit_zero))]
     pub fn shown(&self, register: u16, live: &Live) -> u16
         ensures { HasBits (row_shows live.now.lines live.now.slots register self.now) result }
     {

@@ -42,6 +42,7 @@ impl From<AllocError> for FillRefusal {
 
 impl TableMmd {
     // An MMD of exactly these rows, with its lines down and settled.
+    #[tactic(auto, using(rows::proofs::Formed::passes_exactly, rows::proofs::Formed::passing_well_formed))]
     pub fn fill(heap: Global, rows: &[Row]) -> Result<TableMmd, FillRefusal>
         ensures filled { Filled rows.now result }
         ensures passes_exactly { PassesExactly rows.now }
@@ -58,6 +59,7 @@ fn new_entries(heap: Global, rows: &[Row]) -> Result<Vec<Entry>, AllocError>
     requires { AllByRecursion WellFormed rows.now }
     ensures { IfOk result (λ v. StartsAs rows.now v.items) }
 {
+    // A loop, not map and collect: that each row fits is then read off the loop, and a closure would have to be shown it.
     let mut entries = Vec::with_capacity(heap, rows.len())?;
     for row in rows {
         entries.push_reserved(Entry::new(FittingRow::try_from(*row).unwrap()));

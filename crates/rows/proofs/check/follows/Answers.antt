@@ -1,5 +1,4 @@
-use Rattle.std.proofs.Common.{sym}
-use Rattle.rows.proofs.Checked.{follows_last, follows_none}
+use Rattle.rows.proofs.Checked.{follows_last}
 use Rattle.rows.proofs.check.follows.Goals as goal
 
 pub returns-in-Some : goal.returns-in-Some
@@ -7,6 +6,3 @@ returns-in-Some c =
     let here = c.in-Some.ensures.item in
     let after = follows_last c.args.earlier.now c.args.row.now c.in-Some.last.now here.3.0 in
     cc
-
-pub returns-in-None : goal.returns-in-None
-returns-in-None c = sym (follows_none c.args.earlier.now c.args.row.now c.in-None.ensures.item.3)
