@@ -1,5 +1,5 @@
 // A part of a trace, as it comes in: its records are worked as far as they are there whole.
-ghost use Rattle.std.specs.Prelude.{◌≡◌, ◌≤◌, ◌||◌, length, nat_le};
+ghost use Rattle.std.specs.Prelude.{◌≡◌, ◌≤◌, ◌||◌, length, IfSome, nat_le};
 ghost use Rattle.station.specs.Stations.{state_of};
 ghost use Rattle.trace.specs.Parts.{WorkedPart};
 
@@ -33,7 +33,7 @@ pub fn replay_part<'a, B: Bank>(
     last: bool,
     lines: &mut [u8],
 ) -> Part<'a>
-    ensures within { result.written ≤ length lines.new }
+    ensures within { IfSome result.rest (λ rest. length rest.now ≤ length input.now) × (result.written ≤ length lines.new) }
     ensures worked { WorkedPart (state_of B.Bank.slots station.old) input.now last result (state_of B.Bank.slots station.new) lines.new }
 {
     let mut rest = input;
