@@ -1,6 +1,7 @@
 -- A change of every row's state, seen at a register and bit.
-use Rattle.std.specs.Prelude.{◌≡◌, ℕ, zero, suc, ◌-◌, Bool, true, false, cond, List, [], ◌∷◌, map, slice_index_or, refl}
+use Rattle.std.specs.Prelude.{◌≡◌, ℕ, ◌-◌, Bool, true, false, cond, List, [], ◌∷◌, map, slice_index_or, refl}
 use Rattle.std.proofs.Common.{sym, ap, ap₂, ◌∙◌}
+use Rattle.std.proofs.Math.ListN.{get_or-map}
 use Rattle.mmd.specs.Cells.{Cell, blank}
 use Rattle.table_mmd.specs.Entries.{rows_of, stored_at}
 use Rattle.rows.specs.Rows.{cell_at, cell_in, cell_of, content_of, covers}
@@ -10,9 +11,7 @@ use Rattle.table_mmd.specs.declared.entry.Entry.{Entry}
 
 -- a map that leaves the default alone can be looked up through
 pub get_d_map : {X : Type 0} (f : X → X) (d : X) → f d ≡ d → (xs : List X) (k : ℕ) → slice_index_or (map f xs) k d ≡ f (slice_index_or xs k d)
-get_d_map f d same [] k = sym same
-get_d_map f d same (x ∷ xs) zero = refl
-get_d_map f d same (x ∷ xs) (suc k) = get_d_map f d same xs k
+get_d_map f d same xs k = ap (slice_index_or (map f xs) k) (sym same) ∙ get_or-map f xs k d
 
 pub rows_stay : (f : Entry → Entry) → ((e : Entry) → (f e).row ≡ e.row) → (es : List Entry) → rows_of (map f es) ≡ rows_of es
 rows_stay f same [] = refl
