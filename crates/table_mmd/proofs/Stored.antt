@@ -31,7 +31,7 @@ by_cover false c' h x y s ss cell cells e here beside = ap (λ v. cond v x y) e 
 
 -- the cell in a row that fits is that of its content
 pub cell_listed : (row : FittingRow) (p : ℕ) → cell_in (content_of row.listed) p ≡ cell_at row.content p
-cell_listed row p = ap (λ content. cell_in content p) row.content_listed
+cell_listed row p = ap (λ content. cell_in content p) row.right_content
 
 pub stored_after : {f : Entry → Entry} {g : ℕ → ℕ → Cell → Bool → Bool} → Acts f g
     → (es : List Entry) (r b : ℕ) → stored_of (map f es) r b ≡ g r b (cell_of (rows_of es) r b) (stored_of es r b)
