@@ -1,10 +1,11 @@
 -- The check of rows, step by step: the places of their counters, the first fault and the halves.
 use Rattle.std.proofs.Common.{◌≡◌, ℕ, suc, ◌+◌, ◌-◌, ◌<◌, true, false, ltb, List, [], ◌∷◌, ◌++◌, length, get_or, take, drop, Some, None, Option, sym, refl, ap, ◌∙◌, arith}
+use Rattle.std.specs.Option.{option_or}
 use Rattle.std.specs.List.{position, position_from}
 use Rattle.std.proofs.lemmas.Iterator.Adapters.{position_from-zero}
 use Rattle.std.proofs.lemmas.Bool.Decides.{nat_tests}
 use Rattle.std.proofs.lemmas.List.{drop_more, length-take-le, take_more}
-use Rattle.rows.specs.Checks.{fault_of, first_fault, first_partnerless, follows, is_partnerless, joined, located, or_else, place_in, places_in, places_of, row_fault, with_place, Joins, SlotsOf}
+use Rattle.rows.specs.Checks.{fault_of, first_fault, first_partnerless, follows, is_partnerless, joined, located, place_in, places_in, places_of, row_fault, with_place, Joins, SlotsOf}
 use Rattle.rows.specs.Slots.{nowhere}
 use Rattle.rows.specs.Orders.{in_order}
 use Rattle.fault_at.specs.declared.FaultAt.{FaultAt}
@@ -26,11 +27,11 @@ follows_last (a ∷ b ∷ rest) row d some =
 
 -- ---- the places of counters
 
-or_none : {X : Type 0} (x : Option X) → or_else x None ≡ x
+or_none : {X : Type 0} (x : Option X) → option_or x None ≡ x
 or_none None = refl
 or_none (Some v) = refl
 
-or_assoc : {X : Type 0} (x y z : Option X) → or_else (or_else x y) z ≡ or_else x (or_else y z)
+or_assoc : {X : Type 0} (x y z : Option X) → option_or (option_or x y) z ≡ option_or x (option_or y z)
 or_assoc None y z = refl
 or_assoc (Some v) y z = refl
 
@@ -58,7 +59,7 @@ places_at rows slots holds = λ i k. (holds.1 k i).places
 
 -- the first fault from a place on, by what the row there is at fault for
 pub first_fault_at : (rows : List Row) (i : ℕ) (d : Row) (f : Option TableFault) → i < length rows → f ≡ row_fault (take i rows) (get_or rows i d)
-    → first_fault (take i rows) (drop i rows) ≡ or_else (located f i) (first_fault (take (i + 1) rows) (drop (i + 1) rows))
+    → first_fault (take i rows) (drop i rows) ≡ option_or (located f i) (first_fault (take (i + 1) rows) (drop (i + 1) rows))
 first_fault_at rows i d f within found =
     let here = ap (first_fault (take i rows)) (drop_more rows i d within) in
     let place = length-take-le i rows (omega arith) in

@@ -1,10 +1,11 @@
 -- Rows pass the tests exactly when they form a layout and rise.
 use Rattle.std.proofs.Common.{◌≡◌, ℕ, ◌+◌, ◌≤◌, true, false, ◌&&◌, List, [], ◌∷◌, ◌++◌, length, is_some, None, Option, sym, refl, ◌∙◌, append_assoc, append-nil, arith}
+use Rattle.std.specs.Option.{option_or}
 use Rattle.std.specs.List.{AllByRecursion}
 use Rattle.std.proofs.ByRecursion.{All-push, All-weaker}
 use Rattle.std.proofs.lemmas.Bool.{and_parts}
 use Rattle.std.proofs.lemmas.Bool.Decides.{nat_tests}
-use Rattle.rows.specs.Checks.{fault_of, first_fault, first_partnerless, follows, located, or_else, places_of, row_fault, is_taken}
+use Rattle.rows.specs.Checks.{fault_of, first_fault, first_partnerless, follows, located, places_of, row_fault, is_taken}
 use Rattle.rows.specs.Layouts.{FormsLayout, NoCounterTwice, Pairwise, WellFormed}
 use Rattle.rows.specs.Rows.{span_fits}
 use Rattle.rows.specs.Orders.{rising, rising_after}
@@ -69,7 +70,7 @@ passed_at rows row rest all =
     let order = (and_parts (rising rows) (follows rows row && rising_after row rest) (sym (rising_at rows row rest) ∙ all.rises)).1 in
     (all_at WellFormed rows row rest all.well_formed, (and_parts (follows rows row) (rising_after row rest) order).0, taken_from_twice rows row (pairwise_at NoCounterTwice rows row rest all.no_counter_twice))
 
-neither_fault : (here : Option TableFault) (place : ℕ) (behind : Option (FaultAt TableFault)) → or_else (located here place) behind ≡ None → (here ≡ None) × (behind ≡ None)
+neither_fault : (here : Option TableFault) (place : ℕ) (behind : Option (FaultAt TableFault)) → option_or (located here place) behind ≡ None → (here ≡ None) × (behind ≡ None)
 neither_fault here place behind free = grind (arith, nat_tests)
 
 passed_all : (earlier rest : List Row) → first_fault earlier rest ≡ None → Passed earlier → Passed (earlier ++ rest)

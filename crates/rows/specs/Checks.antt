@@ -1,5 +1,6 @@
 -- Which tables of rows are refused: rows are tested one after another from the first, each by the rules in their order.
 use Rattle.std.specs.Prelude.{◌≡◌, ℕ, ◌+◌, Bool, true, false, if◌then◌else◌, ◌&&◌, List, [], ◌∷◌, ◌++◌, length, Some, None, Ok, Err, Option, Result, ◌==◌, nat_le, nat_lt, slice_index_or}
+use Rattle.std.specs.Option.{option_or}
 use Rattle.mmd.specs.Meaning.{Layout}
 use Rattle.rows.specs.Rows.{cell_of, content_of, if_listed, number_fits, span_fits}
 use Rattle.rows.specs.Parts.{by_part, counter_named, lacks_partner, part_place, part_taken}
@@ -21,12 +22,8 @@ place_as row content k = by_part nowhere (λ n part. if n == k then part_place r
 abbrev pub place_in : Row → ℕ → Places
 place_in row k = if_listed nowhere (λ content. place_as row content k) (content_of row)
 
-abbrev pub or_else : {X : Type 0} → Option X → Option X → Option X
-or_else None y = y
-or_else (Some x) y = Some x
-
 abbrev pub joined : Places → Places → Places
-joined p q = record { short = or_else p.short q.short; high = or_else p.high q.high; low = or_else p.low q.low }
+joined p q = record { short = option_or p.short q.short; high = option_or p.high q.high; low = option_or p.low q.low }
 
 abbrev pub places_of : List Row → ℕ → Places
 places_of [] k = nowhere
@@ -61,7 +58,7 @@ own_fault row = if kind_listed row then (if span_fits row then (if number_fits r
 -- the first rule that a row breaks after these
 abbrev pub row_fault : List Row → Row → Option TableFault
 row_fault earlier row =
-    or_else (own_fault row) (if follows earlier row then (if is_taken row (places_of earlier) then Some Counter else None) else Some Order)
+    option_or (own_fault row) (if follows earlier row then (if is_taken row (places_of earlier) then Some Counter else None) else Some Order)
 
 -- ---- the tests of a table
 
@@ -72,7 +69,7 @@ located (Some f) place = Some (record { fault = f; place = place })
 -- the first row at fault, of those behind the earlier ones
 abbrev pub first_fault : List Row → List Row → Option (FaultAt TableFault)
 first_fault earlier [] = None
-first_fault earlier (row ∷ rest) = or_else (located (row_fault earlier row) (length earlier)) (first_fault (earlier ++ (row ∷ [])) rest)
+first_fault earlier (row ∷ rest) = option_or (located (row_fault earlier row) (length earlier)) (first_fault (earlier ++ (row ∷ [])) rest)
 
 -- a half whose other half is in no row
 abbrev pub partnerless_as : Content → (ℕ → Places) → Bool
@@ -90,7 +87,7 @@ first_partnerless p place (row ∷ rest) =
 unfoldable pub fault_of : List Row → Option (FaultAt TableFault)
 fault_of rows =
     if nat_lt 64 (length rows) then Some (record { fault = TooManyRows; place = 64 })
-    else or_else (first_fault [] rows) (first_partnerless (places_of rows) 0 rows)
+    else option_or (first_fault [] rows) (first_partnerless (places_of rows) 0 rows)
 
 -- where slots place the counters
 abbrev pub places_in : List CounterSlot → ℕ → Places

@@ -1,10 +1,9 @@
 -- What the tests of a row alone give.
-use Rattle.std.specs.Prelude.{◌≡◌, None, Some, Ok, Err, Result}
+use Rattle.std.specs.Prelude.{◌≡◌, List, None, Some, Ok, Err, Result}
 use Rattle.rows.specs.Checks.{own_fault, row_fault}
 use Rattle.rows.specs.declared.fault.TableFault.{TableFault}
 use Rattle.rows.specs.declared.fitting.FittingRow.{FittingRow}
 use Rattle.rows.specs.declared.row.Row.{Row}
-use Rattle.std.specs.Prelude.{List}
 
 -- the row itself, or the first rule of its own that it breaks
 abbrev pub Fits : Row → Result FittingRow TableFault → Type 0

@@ -14,9 +14,9 @@ const LAST_COUNTER: u16 = 15;
 pub struct FittingRow {
     pub listed: Row,
     pub content: Content,
-    ghost content_listed: { content_of listed ≡ Some content },
-    ghost span_fits: { span_fits listed ≡ true },
-    ghost number_fits: { number_fits listed ≡ true },
+    ghost right_content: { content_of listed ≡ Some content },
+    ghost right_span: { span_fits listed ≡ true },
+    ghost right_number: { number_fits listed ≡ true },
 }
 
 impl FittingRow {

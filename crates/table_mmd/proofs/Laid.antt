@@ -30,7 +30,7 @@ use Rattle.table_mmd.proofs.Stored.{rows_stay}
 
 rows_fit : (es : List Entry) → AllByRecursion (λ row. span_fits row ≡ true) (rows_of es)
 rows_fit [] = tt
-rows_fit (e ∷ es) = (e.row.span_fits, rows_fit es)
+rows_fit (e ∷ es) = (e.row.right_span, rows_fit es)
 
 module _ {es : List Entry} {lines : ℕ} {slots : List CounterSlot} (laid : ∥ Laid es lines slots ∥₁) where
   pub narrow_of : all_narrow slots ≡ true

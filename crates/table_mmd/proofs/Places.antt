@@ -33,7 +33,7 @@ relatch_acts lines r =
     record {
       same_row = λ e. grind (arith, nat_tests);
       at_place = λ e q b here.
-          let within = span_within e.row.listed e.row.span_fits in
+          let within = span_within e.row.listed e.row.right_span in
           let small : b - e.row.listed.low < 16 = grind (arith, nat_tests) in
           let place = relatched_at lines e.row.content e.state (b - e.row.listed.low) small in
           grind (arith, nat_tests);
@@ -83,7 +83,7 @@ line_acts n up =
     record {
       same_row = λ e. refl;
       at_place = λ e q b here.
-          let within = span_within e.row.listed e.row.span_fits in
+          let within = span_within e.row.listed e.row.right_span in
           let small : b - e.row.listed.low < 16 = grind (arith, nat_tests) in
           moved_at n up e.row.content e.state (b - e.row.listed.low) small;
       none_at_blank = λ q b. refl;
@@ -120,7 +120,7 @@ finish_acts r b =
       same_row = λ e. grind (arith, nat_tests);
       at_place = λ e q c here.
           let place = finished_at e.row.content e.state (c - e.row.listed.low) in
-          let single : is_self_clearing (cell_at e.row.content (c - e.row.listed.low)) ≡ true → e.row.listed.low ≡ e.row.listed.high = λ clearing. span_one_bit e.row.listed e.row.content e.row.content_listed e.row.span_fits (self_clearing_one_bit e.row.content (c - e.row.listed.low) clearing) in
+          let single : is_self_clearing (cell_at e.row.content (c - e.row.listed.low)) ≡ true → e.row.listed.low ≡ e.row.listed.high = λ clearing. span_one_bit e.row.listed e.row.content e.row.right_content e.row.right_span (self_clearing_one_bit e.row.content (c - e.row.listed.low) clearing) in
           grind (arith, nat_tests);
       none_at_blank = λ q c. grind (arith, nat_tests);
     }
@@ -143,7 +143,7 @@ reset_acts lines =
     record {
       same_row = λ e. refl;
       at_place = λ e q b here.
-          let within = span_within e.row.listed e.row.span_fits in
+          let within = span_within e.row.listed e.row.right_span in
           let small : b - e.row.listed.low < 16 = grind (arith, nat_tests) in
           reset_at lines e.row.content (b - e.row.listed.low) small;
       none_at_blank = λ q b. refl;

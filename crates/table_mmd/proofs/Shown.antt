@@ -17,7 +17,7 @@ use Rattle.rows.specs.declared.row.Content.TheVariants.{Fixed, Follower, Latchin
 use Rattle.rows.specs.declared.row.Row.{Row}
 use Rattle.rows.specs.declared.slot.CounterSlot.{CounterSlot}
 use Rattle.table_mmd.proofs.Stored.{cell_listed}
-use Rattle.table_mmd.proofs.Walks.{or_false}
+use Rattle.std.proofs.Math.Bool.{or-false}
 
 module _ (all : List Entry) (lines : ℕ) (slots : List CounterSlot) where
   shows_at : (c : Content) (s p : ℕ) → shows (table_meaning all lines slots) (stored_at c s p) (cell_at c p) ≡ shown_at lines slots c s p
@@ -40,7 +40,7 @@ module _ (all : List Entry) (lines : ℕ) (slots : List CounterSlot) where
 
   by_cover : (c x t : Bool) (cell cells : Cell) (s ss : Bool) → (c ≡ true → (shows (table_meaning all lines slots) s cell ≡ x) × (t ≡ false)) → shows (table_meaning all lines slots) ss cells ≡ t
       → shows (table_meaning all lines slots) (cond c s ss) (cond c cell cells) ≡ ((c && x) || t)
-  by_cover true x t cell cells s ss here rest = (here refl).0 ∙ sym (ap (λ u. x || u) (here refl).1 ∙ or_false x)
+  by_cover true x t cell cells s ss here rest = (here refl).0 ∙ sym (ap (λ u. x || u) (here refl).1 ∙ or-false x)
   by_cover false x t cell cells s ss here rest = rest
 
   shown_together : (es : List Entry) (r b : ℕ) → Pairwise Apart (rows_of es) → shows (table_meaning all lines slots) (stored_of es r b) (cell_of (rows_of es) r b) ≡ any_shows lines slots r es b

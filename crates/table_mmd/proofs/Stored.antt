@@ -1,6 +1,7 @@
 -- A change of every row's state, seen at a register and bit.
-use Rattle.std.specs.Prelude.{◌≡◌, ℕ, zero, suc, ◌-◌, Bool, true, false, cond, List, [], ◌∷◌, map, slice_index_or, refl}
+use Rattle.std.specs.Prelude.{◌≡◌, ℕ, ◌-◌, Bool, true, false, cond, List, [], ◌∷◌, map, slice_index_or, refl}
 use Rattle.std.proofs.Common.{sym, ap, ap₂, ◌∙◌}
+use Rattle.std.proofs.Math.ListN.{get_or-map}
 use Rattle.mmd.specs.Cells.{Cell, blank}
 use Rattle.table_mmd.specs.Entries.{rows_of, stored_at}
 use Rattle.rows.specs.Rows.{cell_at, cell_in, cell_of, content_of, covers}
@@ -10,9 +11,7 @@ use Rattle.table_mmd.specs.declared.entry.Entry.{Entry}
 
 -- a map that leaves the default alone can be looked up through
 pub get_d_map : {X : Type 0} (f : X → X) (d : X) → f d ≡ d → (xs : List X) (k : ℕ) → slice_index_or (map f xs) k d ≡ f (slice_index_or xs k d)
-get_d_map f d same [] k = sym same
-get_d_map f d same (x ∷ xs) zero = refl
-get_d_map f d same (x ∷ xs) (suc k) = get_d_map f d same xs k
+get_d_map f d same xs k = ap (slice_index_or (map f xs) k) (sym same) ∙ get_or-map f xs k d
 
 pub rows_stay : (f : Entry → Entry) → ((e : Entry) → (f e).row ≡ e.row) → (es : List Entry) → rows_of (map f es) ≡ rows_of es
 rows_stay f same [] = refl
@@ -32,7 +31,7 @@ by_cover false c' h x y s ss cell cells e here beside = ap (λ v. cond v x y) e 
 
 -- the cell in a row that fits is that of its content
 pub cell_listed : (row : FittingRow) (p : ℕ) → cell_in (content_of row.listed) p ≡ cell_at row.content p
-cell_listed row p = ap (λ content. cell_in content p) row.content_listed
+cell_listed row p = ap (λ content. cell_in content p) row.right_content
 
 pub stored_after : {f : Entry → Entry} {g : ℕ → ℕ → Cell → Bool → Bool} → Acts f g
     → (es : List Entry) (r b : ℕ) → stored_of (map f es) r b ≡ g r b (cell_of (rows_of es) r b) (stored_of es r b)

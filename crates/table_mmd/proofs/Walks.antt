@@ -1,8 +1,9 @@
 -- A walk over the rows that changes each: what it has left and what it finds.
-use Rattle.std.proofs.Common.{◌≡◌, ℕ, ◌+◌, ◌-◌, ◌<◌, ◌≤◌, Bool, true, false, ◌||◌, List, [], ◌∷◌, ◌++◌, map, length, get_or, take, drop, sym, refl, ap, ◌∙◌, ap₂, subst, append_assoc, append-nil, set, arith, length-take}
-use Rattle.std.proofs.lemmas.List.{drop_all, drop_more, get_or-append_right, get_or-drop, get_or_at, length-map, length-take-le, set_at, take_all, take_more}
+use Rattle.std.proofs.Common.{◌≡◌, ℕ, ◌+◌, ◌-◌, ◌<◌, ◌||◌, List, [], ◌∷◌, ◌++◌, map, length, get_or, take, drop, sym, ap, ◌∙◌, ap₂, append_assoc, set, arith, length-take}
+use Rattle.std.proofs.lemmas.List.{drop_more, get_or-append_right, get_or-drop, get_or_at, length-map, length-take-le, set_at, take_more}
 use Rattle.std.proofs.lemmas.List.Elements.{all_zip_more, length_all_zip}
 use Rattle.std.specs.List.{AllZip}
+use Rattle.std.proofs.Math.Bool.{or-false, or_assoc}
 use lib.Bits.{bit_or}
 use Rattle.bits.proofs.Bits.{bit_of_or}
 use Rattle.table_mmd.specs.Entries.{HasBits, any_shows, row_shows}
@@ -16,22 +17,9 @@ not_yet_changed f xs ys i d within so_far =
     ap (λ l. get_or l i d) so_far ∙ get_or-append_right (map f (take i xs)) (drop i xs) i i d front (omega arith)
     ∙ get_or-drop i xs (i - i) d ∙ ap (λ n. get_or xs n d) (omega arith)
 
--- at the end every row is changed
-pub all_changed : {X : Type 0} (f : X → X) (xs ys : List X) (i : ℕ) → length xs ≤ i → ys ≡ map f (take i xs) ++ drop i xs → ys ≡ map f xs
-all_changed f xs ys i past so_far =
-    so_far ∙ ap₂ (λ front back. map f front ++ back) (take_all i xs past) (drop_all i xs past) ∙ append-nil (map f xs)
-
 -- one row more
-or_assoc : (a b c : Bool) → ((a || b) || c) ≡ (a || (b || c))
-or_assoc true b c = refl
-or_assoc false b c = refl
-
-pub or_false : (a : Bool) → (a || false) ≡ a
-or_false true = refl
-or_false false = refl
-
 any_shows_push : (lines : ℕ) (slots : List CounterSlot) (r : ℕ) (es : List Entry) (e : Entry) (b : ℕ) → any_shows lines slots r (es ++ (e ∷ [])) b ≡ (any_shows lines slots r es b || row_shows lines slots r e b)
-any_shows_push lines slots r [] e b = or_false (row_shows lines slots r e b)
+any_shows_push lines slots r [] e b = or-false (row_shows lines slots r e b)
 any_shows_push lines slots r (x ∷ es) e b =
     ap (λ t. row_shows lines slots r x b || t) (any_shows_push lines slots r es e b)
     ∙ sym (or_assoc (row_shows lines slots r x b) (any_shows lines slots r es b) (row_shows lines slots r e b))
@@ -54,7 +42,3 @@ each_more R xs ys front i x y within so_far each here answered =
       ap (λ l. set l i y) parts ∙ set_at front _ _ y i long ∙ sym (append_assoc front (y ∷ []) (drop (i + 1) xs)),
       all_zip_more R xs front i x y within read each answered,
     )
-
-pub each_changed : {X : Type 0} (R : X → X → Type 0) (xs ys front : List X) (i : ℕ) → length xs ≤ i → ys ≡ front ++ drop i xs → AllZip R (take i xs) front → AllZip R xs ys
-each_changed R xs ys front i past so_far each =
-    subst (AllZip R xs) (sym (so_far ∙ ap (λ l. front ++ l) (drop_all i xs past) ∙ append-nil front)) (subst (λ l. AllZip R l front) (take_all i xs past) each)

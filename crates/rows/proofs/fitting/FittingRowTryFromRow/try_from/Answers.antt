@@ -45,9 +45,9 @@ invariant_of-result c =
     let ordered = c.in_ok-span.span.ordered in
     let within = c.in_ok-span.span.within_register in
     record {
-      content_listed = is;
-      span_fits = span_fits_from c.args.row c.in_ok-content.content is (grind arith) (grind arith) (grind (arith, nat_tests));
-      number_fits = grind (arith, nat_tests);
+      right_content = is;
+      right_span = span_fits_from c.args.row c.in_ok-content.content is (grind arith) (grind arith) (grind (arith, nat_tests));
+      right_number = grind (arith, nat_tests);
     }
 
 pub returns : goal.returns
