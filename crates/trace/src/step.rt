@@ -31,16 +31,15 @@ pub fn step<'a, B: Bank>(
     if buffer.len() < LINE_MAX {
         return Err(BufferRefusal::Short);
     }
-    let next = match decode(input) {
-        Ok(next) => next,
+    match decode(input) {
+        Ok(Some(Record { call, rest })) => {
+            let length = write_line(Line::Answer(station.call(call)), buffer)?;
+            Ok(Progress::Answered { length, rest })
+        }
+        Ok(None) => Ok(Progress::End),
         Err(refusal) => {
             let length = write_line(Line::Stop(refusal), buffer)?;
-            return Ok(Progress::Stopped { length });
+            Ok(Progress::Stopped { length })
         }
-    };
-    let Some(Record { call, rest }) = next else {
-        return Ok(Progress::End);
-    };
-    let length = write_line(Line::Answer(station.call(call)), buffer)?;
-    Ok(Progress::Answered { length, rest })
+    }
 }

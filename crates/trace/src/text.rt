@@ -7,7 +7,8 @@ use call::answer::Answer;
 use trace_format::line::{LINE_MAX, Line, write_line};
 use trace_format::refusal::TraceRefusal;
 
-// A line more, for which there is room.
+// A line more, for which there is room. It goes through a buffer, since write_line takes a lent slice by a rule of the
+// project.
 fn append(text: &mut Vec<u8>, line: Line)
     requires { vec_len text.old + 11 ≤ vec_capacity text.old }
     ensures items { text.new.items ≡ text.old.items ++ line_of line }

@@ -1,25 +1,29 @@
--- The digits of a number: four bits are a hex digit, and digits read back.
-use Rattle.std.proofs.Common.{◌≡◌, ℕ, zero, suc, ◌+◌, ◌*◌, ◌/◌, ◌%◌, ◌^◌, ◌<◌, ◌≤◌, length, sym, refl, ap, ◌∙◌, mod-eq_of_lt, mul_assoc, add-mul, pow-suc, arith}
+-- The digits of a number: how a line takes one more, and that they read back.
+use Rattle.std.proofs.Common.{◌≡◌, ℕ, zero, suc, ◌+◌, ◌*◌, ◌/◌, ◌%◌, ◌^◌, ◌<◌, ◌≤◌, List, ◌∷◌, ◌++◌, length, drop, set, sym, refl, ap, ◌∙◌, ap₂, mod-eq_of_lt, mul_assoc, add-mul, add-one, pow-suc, arith}
 use native.Mathlib.Nat.{pow-succ', pow-zero}
 use lib.Arith.{mod-mul}
-use lib.Bits.{bit_and}
-use Rattle.std.proofs.lemmas.Nat.{and_mask, mod_below, mul-lt, pow-add}
+use Rattle.std.proofs.Math.Nat.{div-div-eq-div-mul}
+use Rattle.std.proofs.lemmas.List.{drop-set}
+use Rattle.std.proofs.lemmas.Nat.{mod_below, mul-lt}
 use Rattle.std.proofs.lemmas.Str.{digit_value-digit_char}
 use Rattle.std.proofs.lemmas.Bool.Decides.{nat_tests}
 use Rattle.std.specs.Str.Parse.{digits_value, digits_value_after}
 use Rattle.std.specs.Char.{digit_char}
 use Rattle.std.specs.List.{AllByRecursion}
-use Rattle.trace_format.specs.Lines.{digits}
+use Rattle.trace_format.specs.Lines.{digits, newline}
 use Rattle.trace_format.specs.Telling.{Digit}
 
-hex_place : (k : ℕ) → 2 ^ (4 * k) ≡ 16 ^ k
-hex_place zero = refl
-hex_place (suc k) =
-    let e : 4 * suc k ≡ 4 + 4 * k = omega arith in
-    ap (λ n. 2 ^ n) e ∙ pow-add 2 4 (4 * k) ∙ ap (λ n. 16 * n) (hex_place k) ∙ sym (pow-succ' 16 k)
+-- one digit more, in front of those that stand at the end of a line
+pub digit_more : (base place n at behind here : ℕ) (line : List ℕ) (d : ℕ) → at < length line → behind ≡ at + 1 → here ≡ at
+    → drop behind line ≡ digits base place n ++ newline → d ≡ digit_char (n / base ^ place % base)
+    → drop here (set line at d) ≡ digits base (place + 1) n ++ newline
+digit_more base place n at behind here line d inside is_behind is_here stand is =
+    ap (λ k. drop k (set line at d)) is_here ∙ drop-set line at d inside
+    ∙ ap₂ (λ c cs. c ∷ cs) is (ap (λ k. drop k line) (sym is_behind) ∙ stand) ∙ ap (λ w. digits base w n ++ newline) (sym (add-one place))
 
-pub four_bits : (word place : ℕ) → bit_and (word / 2 ^ (4 * place)) 15 ≡ word / 16 ^ place % 16
-four_bits word place = and_mask (word / 2 ^ (4 * place)) 4 ∙ ap (λ n. word / n % 16) (hex_place place)
+-- what is above one digit more
+pub rest_more : (base place n : ℕ) → n / base ^ place / base ≡ n / base ^ (place + 1)
+rest_more base place n = div-div-eq-div-mul n (base ^ place) base ∙ ap (λ k. n / k) (sym (ap (λ e. base ^ e) (add-one place) ∙ pow-suc base place))
 
 pub digits_count : (base width n : ℕ) → length (digits base width n) ≡ width
 digits_count base zero n = refl

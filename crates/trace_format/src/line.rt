@@ -1,6 +1,5 @@
 // Answer lines: what a record of a trace is answered by, put into a buffer as text.
-ghost use Rattle.std.specs.Prelude.{◌≡◌, ◌/◌, ◌%◌, ◌^◌, ◌<◌, ◌≤◌, ◌∷◌, ◌++◌, length, drop};
-ghost use Rattle.call.specs.declared.answer.Answer.TheVariants.{Data, Told};
+ghost use Rattle.std.specs.Prelude.{◌≡◌, ◌-◌, ◌<◌, ◌≤◌, ◌∷◌, ◌++◌, length, drop};
 ghost use Rattle.std.specs.Char.{digit_char};
 ghost use Rattle.trace_format.specs.Lines.{buffer_after, digits, line_of, line_result, newline};
 ghost use Rattle.trace_format.specs.Telling.{Telling};
@@ -18,6 +17,9 @@ pub enum Line {
     // there is no such record, and the trace ends
     Stop(TraceRefusal),
 }
+
+// By hand and not by write!: a line took 70 ns and not 1, and the library does not say which bytes a write into a lent
+// slice leaves.
 
 // Puts a line at the start of a buffer that has room for every line; gives the line's length.
 pub fn write_line(line: Line, buffer: &mut [u8]) -> Result<usize, BufferRefusal>
@@ -37,11 +39,20 @@ fn put_line(line: Line, buffer: &mut [u8]) -> usize
     ensures after { buffer.new ≡ line_of line ++ drop (length (line_of line)) buffer.old }
 {
     match line {
-        Line::Answer(Answer::Data(word)) => put(&data_line(word), buffer),
-        Line::Answer(Answer::Told(word)) => put(&told_line(word), buffer),
+        Line::Answer(Answer::Data(word)) => put(
+            &number_line::<7>(b'R', 16, u32::from(word)),
+            buffer,
+        ),
+        Line::Answer(Answer::Told(word)) => put(&number_line::<11>(b'T', 16, word), buffer),
         Line::Answer(Answer::Done) => put(b"V\n", buffer),
-        Line::Answer(Answer::Refused(refusal)) => put(&number_line(b'E', refusal.number()), buffer),
-        Line::Stop(refusal) => put(&number_line(b'X', refusal.number()), buffer),
+        Line::Answer(Answer::Refused(refusal)) => put(
+            &number_line::<5>(b'E', 10, u32::from(refusal.number())),
+            buffer,
+        ),
+        Line::Stop(refusal) => put(
+            &number_line::<5>(b'X', 10, u32::from(refusal.number())),
+            buffer,
+        ),
     }
 }
 
@@ -56,62 +67,21 @@ fn put(text: &[u8], buffer: &mut [u8]) -> usize
     length
 }
 
-fn data_line(word: u16) -> [u8; 7]
-    ensures { result ≡ line_of (Line.Answer (Data word)) }
+// A line of a letter and a number's last digits in a base, as many as there is room for.
+fn number_line<const N: usize>(letter: u8, base: u32, number: u32) -> [u8; N]
+    requires long { 3 ≤ N }
+    requires base { (0 < base) × (base ≤ 16) }
+    ensures { result ≡ letter ∷ 32 ∷ (digits base (N - 3) number ++ newline) }
 {
-    let word = u32::from(word);
-    [
-        b'R',
-        b' ',
-        hex_digit(word, 3),
-        hex_digit(word, 2),
-        hex_digit(word, 1),
-        hex_digit(word, 0),
-        b'\n',
-    ]
-}
-
-fn told_line(word: u32) -> [u8; 11]
-    ensures { result ≡ line_of (Line.Answer (Told word)) }
-{
-    [
-        b'T',
-        b' ',
-        hex_digit(word, 7),
-        hex_digit(word, 6),
-        hex_digit(word, 5),
-        hex_digit(word, 4),
-        hex_digit(word, 3),
-        hex_digit(word, 2),
-        hex_digit(word, 1),
-        hex_digit(word, 0),
-        b'\n',
-    ]
-}
-
-// A letter and a number of two decimal digits.
-fn number_line(letter: u8, number: u8) -> [u8; 5]
-    ensures { result ≡ letter ∷ 32 ∷ (digits 10 2 number ++ newline) }
-{
-    let tens = digit_char(number / 10 % 10);
-    let ones = digit_char(number % 10);
-    [letter, b' ', tens, ones, b'\n']
-}
-
-// The hex digit of a word at a place, from 0 for the lowest.
-fn hex_digit(word: u32, place: u32) -> u8
-    requires { place < 8 }
-    ensures { result ≡ digit_char (word / 16 ^ place % 16) }
-{
-    digit_char(nibble(word, place))
-}
-
-// The four bits of a word at a place.
-fn nibble(word: u32, place: u32) -> u8
-    requires { place < 8 }
-    ensures { result ≡ word / 16 ^ place % 16 }
-{
-    ((word >> (4 * place)) & 0xf) as u8
+    let mut line = [b' '; N];
+    line[0] = letter;
+    line[N - 1] = b'\n';
+    let mut rest = number;
+    for place in 0..N - 3 {
+        line[N - 2 - place] = digit_char((rest % base) as u8);
+        rest /= base;
+    }
+    line
 }
 
 // The character of a digit: 0 to 9, then a to f.

@@ -4,7 +4,9 @@
 //   bit 1  register, two bytes   bit 5  counter, count of two bytes
 //   bit 2  data, two bytes       bit 6  nothing
 //   bit 3  watcher, entry        bit 7  bit number
-ghost use Rattle.std.specs.Prelude.{◌≡◌};
+//
+// By a rule of the project each record is taken apart by a slice pattern with `let .. else`.
+ghost use Rattle.std.specs.Prelude.{◌≡◌, ◌+◌, ◌*◌};
 ghost use Rattle.trace_format.specs.Decoding.{Decoding};
 ghost use Rattle.trace_format.specs.Records.{count_in, decode_of, decoded, finish_in, line_in, plain_read_in, record_in, record_taken, reset_in, taken_by, watch_read_in, write_in};
 
@@ -69,7 +71,7 @@ fn plain_read(fields: &[u8]) -> Result<Record<'_>, TraceRefusal>
     let [port, device, high, low, rest @ ..] = fields else {
         return Err(TraceRefusal::CutRecord);
     };
-    let register = u16::from_be_bytes([*high, *low]);
+    let register = number(*high, *low);
     let request = Request::Read { register };
     Ok(asking(*port, *device, request, rest))
 }
@@ -80,8 +82,8 @@ fn write(fields: &[u8]) -> Result<Record<'_>, TraceRefusal>
     let [port, device, high, low, data_high, data_low, rest @ ..] = fields else {
         return Err(TraceRefusal::CutRecord);
     };
-    let register = u16::from_be_bytes([*high, *low]);
-    let word = u16::from_be_bytes([*data_high, *data_low]);
+    let register = number(*high, *low);
+    let word = number(*data_high, *data_low);
     let request = Request::Write { register, word };
     Ok(asking(*port, *device, request, rest))
 }
@@ -120,7 +122,7 @@ fn count(fields: &[u8]) -> Result<Record<'_>, TraceRefusal>
     };
     let request = Request::Count {
         counter: *counter,
-        amount: u16::from_be_bytes([*high, *low]),
+        amount: number(*high, *low),
     };
     Ok(asking(*port, *device, request, rest))
 }
@@ -140,7 +142,7 @@ fn finish(fields: &[u8]) -> Result<Record<'_>, TraceRefusal>
     let [port, device, high, low, bit, rest @ ..] = fields else {
         return Err(TraceRefusal::CutRecord);
     };
-    let register = u16::from_be_bytes([*high, *low]);
+    let register = number(*high, *low);
     let request = Request::Finish {
         register,
         bit: *bit,
@@ -155,4 +157,11 @@ fn asking(port: u8, device: u8, request: Request, rest: &[u8]) -> Record<'_>
     let address = MmdAddress { port, device };
     let call = Call::At { address, request };
     Record { call, rest }
+}
+
+// A number of two bytes, the higher first.
+fn number(high: u8, low: u8) -> u16
+    ensures { result ≡ high * 256 + low }
+{
+    u16::from_be_bytes([high, low])
 }
