@@ -94,7 +94,7 @@ impl Places {
     }
 }
 
-#[derive(Clone, Copy)]
+#[derive(Clone, Copy, PartialEq, Eq, Debug)]
 pub struct CounterSlot {
     pub places: Places,
     pub counter: Counter,

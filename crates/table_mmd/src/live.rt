@@ -7,7 +7,7 @@ use bits::is_one;
 use mmd::counter::Counter;
 use rows::slot::{CounterSlot, slot_of};
 
-#[derive(Clone, Copy)]
+#[derive(Clone, Copy, PartialEq, Eq, Debug)]
 pub struct Live {
     pub lines: u32,
     pub slots: [CounterSlot; 16],
