@@ -23,7 +23,7 @@ pub enum BusRefusal {
 }
 
 impl BusRefusal {
-    // The refusal's number on the card.
+    // The refusal's number on the card. By a match: a refusal that holds another one has its number.
     pub fn number(self) -> u8
         ensures { result ≡ number_of self }
     {

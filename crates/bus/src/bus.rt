@@ -12,6 +12,7 @@ use frame::address::MmdAddress;
 use frame::word::split;
 use mmd::event::Event;
 
+// No impl Model: its value would hold register meanings, which are functions and have no code, as the check says.
 #[derive(Drop)]
 pub struct Bus<B> {
     pub(crate) bank: B,

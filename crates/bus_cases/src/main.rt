@@ -19,21 +19,6 @@ use told::Told;
 
 type Two = Pair<Slot<FecMmd>, Slot<FecMmd>>;
 
-enum Step {
-    Frame(u32),
-    // the register, and the word
-    Read(MmdAddress, u16),
-    Write(MmdAddress, u16, u16),
-    Event(MmdAddress, Event),
-    // frames that were not refused
-    Frames,
-}
-
-struct Case {
-    name: &'static str,
-    step: Step,
-}
-
 // two slots' addresses, and four that lead to no slot
 const FIRST: MmdAddress = MmdAddress { port: 1, device: 3 };
 
@@ -68,162 +53,19 @@ const FINISH: Event = Event::Finish {
     bit: 0,
 };
 
-const CASES: [Case; 35] = [
-    Case {
-        name: "count at 1.3",
-        step: Step::Event(FIRST, COUNT_5),
-    },
-    Case {
-        name: "read 1.3.77",
-        step: Step::Read(FIRST, 77),
-    },
-    Case {
-        name: "read 1.3.76",
-        step: Step::Read(FIRST, 76),
-    },
-    Case {
-        name: "read 2.1.77",
-        step: Step::Read(SECOND, 77),
-    },
-    Case {
-        name: "read 2.1.76",
-        step: Step::Read(SECOND, 76),
-    },
-    Case {
-        name: "frames",
-        step: Step::Frames,
-    },
-    Case {
-        name: "write 2.1.75",
-        step: Step::Write(SECOND, 75, 3),
-    },
-    Case {
-        name: "read 2.1.75",
-        step: Step::Read(SECOND, 75),
-    },
-    Case {
-        name: "read 1.3.75",
-        step: Step::Read(FIRST, 75),
-    },
-    Case {
-        name: "frames",
-        step: Step::Frames,
-    },
-    Case {
-        name: "read at no device",
-        step: Step::Read(NO_DEVICE, 75),
-    },
-    Case {
-        name: "write at no device",
-        step: Step::Write(NO_DEVICE, 75, 3),
-    },
-    Case {
-        name: "read at no port",
-        step: Step::Read(NO_PORT, 75),
-    },
-    Case {
-        name: "write at no port",
-        step: Step::Write(NO_PORT, 75, 3),
-    },
-    Case {
-        name: "read at port 40",
-        step: Step::Read(PORT_40, 75),
-    },
-    Case {
-        name: "write at port 40",
-        step: Step::Write(PORT_40, 75, 3),
-    },
-    Case {
-        name: "read at device 32",
-        step: Step::Read(DEVICE_32, 75),
-    },
-    Case {
-        name: "frame to no device",
-        step: Step::Frame(0x0092_004b),
-    },
-    Case {
-        name: "frame to no port",
-        step: Step::Frame(0x018e_004b),
-    },
-    Case {
-        name: "frame with another start",
-        step: Step::Frame(0x4000_0000),
-    },
-    Case {
-        name: "frame with another turnaround",
-        step: Step::Frame(0x108d_1234),
-    },
-    Case {
-        name: "frames",
-        step: Step::Frames,
-    },
-    Case {
-        name: "count at port 40",
-        step: Step::Event(PORT_40, COUNT_5),
-    },
-    Case {
-        name: "count at no device",
-        step: Step::Event(NO_DEVICE, COUNT_5),
-    },
-    Case {
-        name: "count at no port",
-        step: Step::Event(NO_PORT, COUNT_5),
-    },
-    Case {
-        name: "count of no counter",
-        step: Step::Event(FIRST, COUNT_NONE),
-    },
-    Case {
-        name: "finish of no self-clearing bit",
-        step: Step::Event(FIRST, FINISH),
-    },
-    Case {
-        name: "frames",
-        step: Step::Frames,
-    },
-    Case {
-        name: "address 1.3.80",
-        step: Step::Frame(0x008e_0050),
-    },
-    Case {
-        name: "post-read-increment",
-        step: Step::Frame(0x208c_0000),
-    },
-    Case {
-        name: "post-read-increment",
-        step: Step::Frame(0x208c_0000),
-    },
-    Case {
-        name: "read at 82",
-        step: Step::Frame(0x308c_0000),
-    },
-    Case {
-        name: "address 1.3.65535",
-        step: Step::Frame(0x008e_ffff),
-    },
-    Case {
-        name: "post-read-increment",
-        step: Step::Frame(0x208c_0000),
-    },
-    Case {
-        name: "frames",
-        step: Step::Frames,
-    },
-];
-
 fn main(rt: HostRuntime) -> io::Result<()> {
     let mut out = BufWriter::new(rt.alloc(), rt.stdout())?;
     write_twins(&mut two(FIRST, FIRST), &mut out)?;
     let left = two(FIRST, FIRST);
     let right = two(SECOND, PORT_40);
     let mut bus = Bus::new(Pair { left, right });
-    for case in &CASES {
-        write_line(case.name, work(&case.step, &mut bus), &mut out)?;
-    }
+    write_registers(&mut bus, &mut out)?;
+    write_refusals(&mut bus, &mut out)?;
+    write_frames(&mut bus, &mut out)?;
     read_often(65535, &mut bus);
-    write_line("65535 frames more", work(&Step::Frames, &mut bus), &mut out)?;
+    write_line("65535 frames more", Told::Frames(bus.frames()), &mut out)?;
     read_often(1, &mut bus);
-    write_line("65536 frames more", work(&Step::Frames, &mut bus), &mut out)?;
+    write_line("65536 frames more", Told::Frames(bus.frames()), &mut out)?;
     out.flush()
 }
 
@@ -242,35 +84,72 @@ fn write_twins<W: Write>(twins: &mut Two, out: &mut W) -> io::Result<()> {
     twins.act(slot, Deed::Frame(Operation::Address { register: 75 }));
     twins.act(slot, Deed::Frame(Operation::Write { data: 3 }));
     twins.act(1, Deed::Frame(Operation::Address { register: 75 }));
-    write_line(
-        "slot 0",
-        twins.act(0, Deed::Frame(Operation::Read)).into(),
-        out,
-    )?;
-    write_line(
-        "slot 1",
-        twins.act(1, Deed::Frame(Operation::Read)).into(),
-        out,
-    )?;
-    write_line(
-        "slot 2",
-        twins.act(2, Deed::Frame(Operation::Read)).into(),
-        out,
-    )
+    write_line("slot 0", twins.act(0, Deed::Frame(Operation::Read)), out)?;
+    write_line("slot 1", twins.act(1, Deed::Frame(Operation::Read)), out)?;
+    write_line("slot 2", twins.act(2, Deed::Frame(Operation::Read)), out)
 }
 
-fn work<B: Bank>(step: &Step, bus: &mut Bus<B>) -> Told {
-    match *step {
-        Step::Frame(word) => bus.frame(word).into(),
-        Step::Read(address, register) => bus.read_register(address, register).into(),
-        Step::Write(address, register, word) => bus.write_register(address, register, word).into(),
-        Step::Event(address, event) => bus.event(address, event).into(),
-        Step::Frames => Told::Frames(bus.frames()),
-    }
-}
-
-fn write_line<W: Write>(name: &str, told: Told, out: &mut W) -> io::Result<()> {
+fn write_line<T: Into<Told>, W: Write>(name: &str, given: T, out: &mut W) -> io::Result<()> {
+    let told: Told = given.into();
     writeln!(out, "{name}: {told}")
+}
+
+// Registers of two slots are read and written, and what is no slot's is refused.
+fn write_registers<B: Bank, W: Write>(bus: &mut Bus<B>, out: &mut W) -> io::Result<()> {
+    write_line("count at 1.3", bus.event(FIRST, COUNT_5), out)?;
+    write_line("read 1.3.77", bus.read_register(FIRST, 77), out)?;
+    write_line("read 1.3.76", bus.read_register(FIRST, 76), out)?;
+    write_line("read 2.1.77", bus.read_register(SECOND, 77), out)?;
+    write_line("read 2.1.76", bus.read_register(SECOND, 76), out)?;
+    write_line("frames", Told::Frames(bus.frames()), out)?;
+    write_line("write 2.1.75", bus.write_register(SECOND, 75, 3), out)?;
+    write_line("read 2.1.75", bus.read_register(SECOND, 75), out)?;
+    write_line("read 1.3.75", bus.read_register(FIRST, 75), out)?;
+    write_line("frames", Told::Frames(bus.frames()), out)?;
+    Ok(())
+}
+
+// What is refused by the bus, and that it is not counted.
+fn write_refusals<B: Bank, W: Write>(bus: &mut Bus<B>, out: &mut W) -> io::Result<()> {
+    write_line("read at no device", bus.read_register(NO_DEVICE, 75), out)?;
+    write_line(
+        "write at no device",
+        bus.write_register(NO_DEVICE, 75, 3),
+        out,
+    )?;
+    write_line("read at no port", bus.read_register(NO_PORT, 75), out)?;
+    write_line("write at no port", bus.write_register(NO_PORT, 75, 3), out)?;
+    write_line("read at port 40", bus.read_register(PORT_40, 75), out)?;
+    write_line("write at port 40", bus.write_register(PORT_40, 75, 3), out)?;
+    write_line("read at device 32", bus.read_register(DEVICE_32, 75), out)?;
+    write_line("frame to no device", bus.frame(0x0092_004b), out)?;
+    write_line("frame to no port", bus.frame(0x018e_004b), out)?;
+    write_line("frame with another start", bus.frame(0x4000_0000), out)?;
+    write_line("frame with another turnaround", bus.frame(0x108d_1234), out)?;
+    write_line("frames", Told::Frames(bus.frames()), out)?;
+    write_line("count at port 40", bus.event(PORT_40, COUNT_5), out)?;
+    write_line("count at no device", bus.event(NO_DEVICE, COUNT_5), out)?;
+    write_line("count at no port", bus.event(NO_PORT, COUNT_5), out)?;
+    write_line("count of no counter", bus.event(FIRST, COUNT_NONE), out)?;
+    write_line(
+        "finish of no self-clearing bit",
+        bus.event(FIRST, FINISH),
+        out,
+    )?;
+    write_line("frames", Told::Frames(bus.frames()), out)?;
+    Ok(())
+}
+
+// Frames as words, by the address register.
+fn write_frames<B: Bank, W: Write>(bus: &mut Bus<B>, out: &mut W) -> io::Result<()> {
+    write_line("address 1.3.80", bus.frame(0x008e_0050), out)?;
+    write_line("post-read-increment", bus.frame(0x208c_0000), out)?;
+    write_line("post-read-increment", bus.frame(0x208c_0000), out)?;
+    write_line("read at 82", bus.frame(0x308c_0000), out)?;
+    write_line("address 1.3.65535", bus.frame(0x008e_ffff), out)?;
+    write_line("post-read-increment", bus.frame(0x208c_0000), out)?;
+    write_line("frames", Told::Frames(bus.frames()), out)?;
+    Ok(())
 }
 
 // Read frames to the first address.

@@ -8,6 +8,7 @@ use bank::deed::Done;
 use bus::answer::{BusAnswer, BusRefusal};
 use std::fmt;
 
+// The ends that a line can have: not what an answer is, but how it is shown.
 #[derive(Clone, Copy, PartialEq, Eq, Debug)]
 pub enum Told {
     Word(u16),

@@ -21,7 +21,7 @@ pub enum CallRefusal {
 }
 
 impl CallRefusal {
-    // The refusal's number on the card.
+    // The refusal's number on the card. By a match: a refusal that holds an MMD's has the MMD's number.
     pub fn number(self) -> u8
         ensures { result ≡ number_of self }
     {
@@ -48,6 +48,7 @@ impl From<BusRefusal> for CallRefusal {
     }
 }
 
+// An enum of its own and no Result: as one it would need a second enum, for what is well, and each case be named twice.
 #[derive(Clone, Copy, PartialEq, Eq, Debug)]
 pub enum Answer {
     // a plain read: the register's 16 bits

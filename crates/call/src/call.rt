@@ -1,7 +1,8 @@
 // What can be asked of a station.
 use frame::address::MmdAddress;
 
-// What is asked of the MMD at an address.
+// What is asked of the MMD at an address: the six calls as they are named, so an event's four stand beside read and write
+// and not in an enum within this one.
 #[derive(Clone, Copy, PartialEq, Eq, Debug)]
 pub enum Request {
     // a plain read

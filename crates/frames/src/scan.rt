@@ -3,7 +3,7 @@ ghost use Rattle.std.specs.Prelude.{◌≡◌, ◌<◌};
 ghost use Rattle.frames.specs.Scans.{glyph_of, next, line_of};
 ghost use Rattle.frames.specs.Lines.{HoldsWhatWasScanned};
 
-// What a line holds.
+// What a line holds. Three names and no Result of an Option: a line that is no word is no error.
 #[derive(Clone, Copy, PartialEq, Eq, Debug)]
 pub enum Line {
     Blank,

@@ -5,6 +5,7 @@ ghost use Rattle.station.specs.Named.{all_named};
 use bus::bus::Bus;
 use watch_list::watch::Watched;
 
+// No impl Model: its value would hold register meanings, which are functions and have no code, as the check says.
 #[derive(Drop)]
 pub struct Station<B> {
     pub(crate) bus: Bus<B>,
