@@ -50,7 +50,7 @@ invariant_of-self-2 g c =
     let s = c.args.self.now in
     let w = c.in-Some.watched.now in
     let at = slice_get_read (vec_items s.watched) _ c.from.result w refl (omega (arith, c.in-Some.ensures.item)) c.in-Some.ensures.value in
-    let same = ap entry_of c.look.ensures.after ∙ entry_of_after_look c.args.watcher c.take.new.watched ∙ c.in_ok-take.ensures.entry in
+    let same = ap entry_of c.look.ensures.after ∙ entry_of_after_look _ c.take.new.watched ∙ c.in_ok-take.ensures.entry in
     record { named = named_put (vec_items s.watched) c.from.result w c.look.new.self s.named at same }
 
 pub returns : goal.returns
