@@ -37,6 +37,7 @@ impl<B: Bank> Station<B> {
         ensures answer { data_as result ≡ answer_of (At address (Read register)) (state_of B.Bank.slots self.old) }
         ensures after { state_of B.Bank.slots self.new ≡ after_call (At address (Read register)) (state_of B.Bank.slots self.old) }
     {
+        // by its place: tried `find` over `iter_mut`, and once that borrow is over a proof knows nothing of the list
         match hearing(self.watched.as_slice(), address, register) {
             Some(index) => take(&mut self.bus, &mut self.watched[index]),
             None => read_register(&mut self.bus, address, register),
