@@ -1,5 +1,5 @@
 -- A call's result and what it left, as the rules have them.
-use Rattle.std.proofs.Common.{◌≡◌, ℕ, ◌<◌, true, false, cond, ◌&&◌, List, length, Some, None, Err, Option, Result, sym, refl, ap, ◌∙◌, ap₂, arith}
+use Rattle.std.proofs.Common.{◌≡◌, ℕ, ◌<◌, true, false, cond, ◌&&◌, List, [], length, set, Some, None, Err, Option, Result, sym, refl, ap, ◌∙◌, ap₂, arith}
 use Rattle.std.proofs.lemmas.Bool.Decides.{nat_tests}
 use Rattle.std.specs.List.{slice_get}
 use Rattle.frame.proofs.Addresses.{one_address}
@@ -17,9 +17,10 @@ use Rattle.call.specs.declared.answer.CallRefusal.TheVariants.{NoDevice, NoPort,
 use Rattle.call.specs.declared.call.Call.{Call}
 use Rattle.call.specs.declared.call.Call.TheVariants.{At}
 use Rattle.call.specs.declared.call.Request.TheVariants.{Read, Write, Reset}
-use Rattle.promise.specs.Rules.{State, admitted, after_call, answer_of, answer_under, data_of, evented, hearing, place_of, place_verdict, read_by, reply, state_under, swept, took, verdict}
+use Rattle.promise.specs.Rules.{State, admitted, after_call, answer_of, answer_under, data_of, evented, hearing, hears, place_of, place_verdict, read_by, reply, state_under, swept, took, verdict}
 use Rattle.watch_list.specs.Entries.{address_of, fed_by}
 use Rattle.watch_list.specs.Watches.{entry_of}
+use Rattle.watch_list.specs.declared.watch.Watched.{Watched}
 use Rattle.station.specs.Named.{all_named}
 use Rattle.station.specs.Outcomes.{access_verdict, data_as, done_as, event_verdict, request_of, result_under, told_as}
 use Rattle.station.specs.Takes.{entry_verdict, take_answer}
@@ -27,7 +28,7 @@ use Rattle.station.proofs.Accesses.{Absent, absent_device, absent_port, absent_w
 use Rattle.station.proofs.Heard.{heard_entry}
 use Rattle.station.proofs.Named.{named_nth}
 use Rattle.station.proofs.Swept.{swept_absent, swept_found}
-use Rattle.station.proofs.Takes.{took_under, verdict_found}
+use Rattle.station.proofs.Takes.{took_in_list, took_under, verdict_found, with_one, with_watched}
 
 done_under : (v : Option CallRefusal) → done_as (result_under v (tt {0})) ≡ answer_under v Done
 done_under None = refl
@@ -49,31 +50,35 @@ module _ (address : MmdAddress) (register : ℕ) (m after : State) (r : Result �
 
   pub read_unheard : hearing address register m.watched ≡ None
       → r ≡ result_under (access_verdict address m.slots) (data_of register (place address m.slots))
-      → after ≡ state_under (access_verdict address m.slots) (read_by address register None m) m
-      → (data_as r ≡ answer_of read_call m) × (after ≡ after_call read_call m)
+      → with_watched [] after ≡ state_under (access_verdict address m.slots) (read_by address register None (with_watched [] m)) (with_watched [] m)
+      → (data_as r ≡ answer_of read_call m) × (with_watched m.watched after ≡ after_call read_call m)
   unfolding answer_of after_call verdict admitted reply
   read_unheard none told left =
       let v = access_verdict address m.slots in
-      (ap data_as told ∙ data_under v (data_of register (place address m.slots)), left ∙ ap (λ o. state_under v (read_by address register o m) m) (sym none))
+      (ap data_as told ∙ data_under v (data_of register (place address m.slots)), ap (with_watched m.watched) left ∙ by v ∙ ap (λ o. state_under v (read_by address register o m) m) (sym none))
+    where
+      by : (v : Option CallRefusal) → with_watched m.watched (state_under v (read_by address register None (with_watched [] m)) (with_watched [] m)) ≡ state_under v (read_by address register None m) m
+      by None = refl
+      by (Some e) = refl
 
   pub read_heard : (i : ℕ) → hearing address register m.watched ≡ Some i → all_named m.watched ≡ true
-      → r ≡ take_answer (slice_get m.watched i) m.slots → after ≡ took i m
-      → (data_as r ≡ answer_of read_call m) × (after ≡ after_call read_call m)
+      → (w taken : Watched) → slice_get m.watched i ≡ Some w → r ≡ take_answer w m.slots → with_one taken after ≡ took 0 (with_one w m)
+      → (data_as r ≡ answer_of read_call m) × (with_watched (set m.watched i taken) after ≡ after_call read_call m)
   unfolding answer_of after_call verdict admitted reply
-  read_heard i heard named told left =
+  read_heard i heard named w taken at told left =
       let entry = heard_entry address register i m.watched heard in
-      let w = entry.0 in
-      let hears_it = entry.2 in
+      let own : entry.0 ≡ w = let e : Some entry.0 ≡ Some w = sym entry.1 ∙ at in cc in
+      let hears_it : hears address register w ≡ true = ap (hears address register) (sym own) ∙ entry.2 in
       let one : address_of (entry_of w) ≡ address = one_address (address_of (entry_of w)) address (grind (arith, nat_tests)) in
       let fed : fed_by (entry_of w) ≡ register = grind (arith, nat_tests) in
-      let here : addressable address ≡ true = ap addressable (sym one) ∙ named_nth m.watched i w named entry.1 in
+      let here : addressable address ≡ true = ap addressable (sym one) ∙ named_nth m.watched i w named at in
       let there : place_of (entry_of w) m.slots ≡ place address m.slots = ap (λ a. place a m.slots) one in
       let v = access_verdict address m.slots in
       let same : entry_verdict (entry_of w) m.slots ≡ v =
       ap (place_verdict (λ _. None)) there ∙ sym (ap (λ k. cond (k && true) (place_verdict (λ _. None) (place address m.slots)) (Some OutOfRange)) here) in
       let word : data_of (fed_by (entry_of w)) (place_of (entry_of w) m.slots) ≡ data_of register (place address m.slots) = ap₂ data_of fed there in (
-        ap data_as (told ∙ ap (λ o. take_answer o m.slots) entry.1 ∙ ap₂ result_under same word) ∙ data_under v (data_of register (place address m.slots)),
-        left ∙ took_under m i w entry.1 ∙ ap₂ (λ u o. state_under u (read_by address register o m) m) same (sym heard),
+        ap data_as (told ∙ ap₂ result_under same word) ∙ data_under v (data_of register (place address m.slots)),
+        took_in_list m after i w taken at left ∙ took_under m i w at ∙ ap₂ (λ u o. state_under u (read_by address register o m) m) same (sym heard),
       )
 
 -- ---- a write

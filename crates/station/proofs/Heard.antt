@@ -1,9 +1,10 @@
 -- The search for the entry that a register feeds.
-use Rattle.std.proofs.Common.{◌≡◌, ℕ, ◌+◌, Bool, true, false, if◌then◌else◌, List, [], ◌∷◌, Some, None, Option, sym, refl, ap, ◌∙◌, subst, arith}
+use Rattle.std.proofs.Common.{◌≡◌, ℕ, ◌+◌, Bool, true, false, if◌then◌else◌, List, [], ◌∷◌, Some, None, Option, sym, refl, ap, ◌∙◌, subst, ◌<◌, length, arith}
 use Rattle.std.proofs.lemmas.Iterator.Adapters.{position_from-zero}
 use Rattle.std.specs.List.{position, position_from, slice_get}
 use Rattle.frame.specs.declared.address.MmdAddress.{MmdAddress}
 use Rattle.bank.specs.Slots.{next_place}
+use Rattle.promise.proofs.Lists.{nth_within}
 use Rattle.promise.proofs.Steps.{Heard, hearing_right}
 use Rattle.promise.specs.Rules.{hearing, hears}
 use Rattle.watch_list.specs.declared.watch.Watched.{Watched}
@@ -40,3 +41,6 @@ heard_first address register ws =
 pub heard_entry : (address : MmdAddress) (register i : ℕ) (ws : List Watched) → hearing address register ws ≡ Some i
     → (w : Watched) × (slice_get ws i ≡ Some w) × (hears address register w ≡ true)
 heard_entry address register i ws is = subst (Heard address register ws) is (hearing_right address register ws)
+
+pub heard_within : (address : MmdAddress) (register i : ℕ) (ws : List Watched) → hearing address register ws ≡ Some i → i < length ws
+heard_within address register i ws is = let entry = heard_entry address register i ws is in nth_within ws i entry.0 entry.1

@@ -18,13 +18,17 @@ named_nth [] i w all at = let z : ◌≡◌ {A = ℕ} 0 1 = cc in absurd (omega 
 named_nth (v ∷ ws) zero w all at = let e : w ≡ v = cc in ap (λ x. is_named (entry_of x)) e ∙ (and_parts (is_named (entry_of v)) (all_named ws) all).0
 named_nth (v ∷ ws) (suc i) w all at = named_nth ws i w (and_parts (is_named (entry_of v)) (all_named ws) all).1 at
 
-pub named_set : (ws : List Watched) (i : ℕ) (w : Watched) → all_named ws ≡ true → is_named (entry_of w) ≡ true → all_named (set ws i w) ≡ true
+named_set : (ws : List Watched) (i : ℕ) (w : Watched) → all_named ws ≡ true → is_named (entry_of w) ≡ true → all_named (set ws i w) ≡ true
 unfolding all_named
 named_set [] i w all here = refl
 named_set (v ∷ ws) zero w all here = and_from (is_named (entry_of w)) (all_named ws) here (and_parts (is_named (entry_of v)) (all_named ws) all).1
 named_set (v ∷ ws) (suc i) w all here =
     let parts = and_parts (is_named (entry_of v)) (all_named ws) all in
     and_from (is_named (entry_of v)) (all_named (set ws i w)) parts.0 (named_set ws i w parts.1 here)
+
+-- one that is put in the place of another
+pub named_put : (ws : List Watched) (i : ℕ) (w v : Watched) → all_named ws ≡ true → slice_get ws i ≡ Some w → entry_of v ≡ entry_of w → all_named (set ws i v) ≡ true
+named_put ws i w v all at same = named_set ws i v all (ap is_named same ∙ named_nth ws i w all at)
 
 -- ---- a list that passes its check
 

@@ -1,48 +1,21 @@
 -- The sweep of an MMD's entries, entry by entry.
-use Rattle.std.proofs.Common.{◌≡◌, ℕ, zero, suc, ◌+◌, ◌<◌, Bool, true, false, cond, length, Some, None, Option, sym, refl, ap, ◌∙◌, add-one, arith}
-use Rattle.std.proofs.lemmas.List.{length-set}
-use Rattle.std.proofs.lemmas.Bool.Decides.{nat_tests}
+use Rattle.std.proofs.Common.{◌≡◌, ℕ, zero, suc, ◌+◌, ◌<◌, Bool, true, false, cond, length, get_or, set, Some, None, Option, sym, refl, ap, ◌∙◌, add-one}
+use Rattle.std.proofs.lemmas.List.{set-get_or}
+use Rattle.std.proofs.lemmas.Option.{slice_get-get_or}
 use Rattle.std.specs.List.{slice_get}
 use Rattle.frame.proofs.Addresses.{one_address}
 use Rattle.frame.specs.declared.address.MmdAddress.{MmdAddress}
 use Rattle.bus.specs.Places.{Place, no_port, no_device, found, on_found, place}
 use Rattle.mmd.specs.Meaning.{Meaning}
-use Rattle.promise.specs.Rules.{State, entry_read, is_of_mmd, place_of, sweep_step, swept, took, took_at, took_nth}
+use Rattle.promise.specs.Rules.{State, entry_read, is_of_mmd, place_of, sweep_step, swept, took, took_at}
 use Rattle.promise.proofs.EntryReads.{after_entry, place_entry_read}
 use Rattle.watch_list.specs.Entries.{address_of, is_of}
 use Rattle.watch_list.specs.Watches.{entry_of}
 use Rattle.watch_list.specs.declared.watch.Watched.{Watched}
+use Rattle.station.specs.Named.{all_named}
 use Rattle.station.proofs.Accesses.{Absent}
-use Rattle.station.proofs.Takes.{took_is}
-
--- ---- the list stays as long as it was
-
-pub took_length : (k : ℕ) (m : State) → length (took k m).watched ≡ length m.watched
-unfolding took
-took_length k m = by_entry (slice_get m.watched k)
-  where
-    by_place : (w : Watched) (p : Place) → length (took_at k w p m).watched ≡ length m.watched
-    by_place w no_port = refl
-    by_place w no_device = refl
-    by_place w (found mmd) = length-set m.watched k _
-
-    by_entry : (o : Option Watched) → length (took_nth k o m).watched ≡ length m.watched
-    by_entry None = refl
-    by_entry (Some w) = by_place w (place_of (entry_of w) m.slots)
-
-swept_length : (address : MmdAddress) (k : ℕ) (m : State) → length (swept address k m).watched ≡ length m.watched
-unfolding swept
-swept_length address zero m = refl
-swept_length address (suc k) m =
-    let before = swept address k m in
-    let by : (t : Bool) → length (cond t (took k before) before).watched ≡ length before.watched =
-    λ t. elim t as (λ t. length (cond t (took k before) before).watched ≡ length before.watched) [ true ↦ took_length k before | false ↦ refl ] in
-    by (is_of_mmd address (slice_get before.watched k)) ∙ swept_length address k m
-
--- an entry that is not swept yet stands in the list
-pub swept_within : (address : MmdAddress) (k n len : ℕ) (m s : State) → s ≡ swept address k m → n ≡ length m.watched → k < n → len ≡ length s.watched → k < len
-swept_within address k n len m s so_far all below long =
-    let same = ap (λ (s : State). length s.watched) so_far ∙ swept_length address k m in omega arith
+use Rattle.station.proofs.Named.{named_put}
+use Rattle.station.proofs.Takes.{took_in_list, took_is, with_one, with_watched}
 
 -- ---- one entry more
 
@@ -50,12 +23,32 @@ pub swept_none : (address : MmdAddress) (m : State) → m ≡ swept address 0 m
 unfolding swept
 swept_none address m = refl
 
-pub swept_more : (address : MmdAddress) (k : ℕ) (m s after : State) (w : Watched) (of_it : Bool) → s ≡ swept address k m → slice_get s.watched k ≡ Some w
-    → of_it ≡ is_of address (entry_of w) → after ≡ cond of_it (took k s) s → after ≡ swept address (k + 1) m
-unfolding swept
-swept_more address k m s after w of_it so_far at nat_tests left =
-    rw add-one
-    (left ∙ ap (λ t. cond t (took k s) s) nat_tests ∙ sym (ap (λ o. cond (is_of_mmd address o) (took k s) s) at) ∙ ap (sweep_step address k) so_far)
+module _ (address : MmdAddress) (k : ℕ) (m s : State) (d : Watched) (within : k < length s.watched)
+    (so_far : s ≡ swept address k m) (named : all_named s.watched ≡ true) where
+  abbrev here : Watched
+  here = get_or s.watched k d
+
+  stands : slice_get s.watched k ≡ Some here
+  stands = slice_get-get_or s.watched k d within
+
+  abbrev Swept_on : State → Type 0
+  Swept_on after = (after ≡ swept address (k + 1) m) × (all_named after.watched ≡ true)
+
+  stepped : (of_it : Bool) → is_of address (entry_of here) ≡ of_it → cond of_it (took k s) s ≡ swept address (k + 1) m
+  unfolding swept
+  stepped of_it tested =
+      rw add-one
+      (sym (ap (λ t. cond t (took k s) s) tested) ∙ sym (ap (λ o. cond (is_of_mmd address o) (took k s) s) stands) ∙ ap (sweep_step address k) so_far)
+
+  pub swept_other : is_of address (entry_of here) ≡ false → Swept_on (with_watched (set s.watched k here) s)
+  swept_other other =
+      let same = set-get_or s.watched k d in
+      (ap (λ ws. with_watched ws s) same ∙ stepped false other, ap all_named same ∙ named)
+
+  pub swept_taken : (after : State) (taken : Watched) → is_of address (entry_of here) ≡ true → with_one taken after ≡ took 0 (with_one here s)
+      → entry_of taken ≡ entry_of here → Swept_on (with_watched (set s.watched k taken) after)
+  swept_taken after taken of_it took_it same =
+      (took_in_list s after k here taken stands took_it ∙ stepped true of_it, named_put s.watched k here taken named stands same)
 
 -- ---- where no MMD is there, nothing changes
 

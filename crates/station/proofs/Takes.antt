@@ -1,6 +1,7 @@
 -- An entry's registers are read, and its words take the reading in.
-use Rattle.std.proofs.Common.{◌≡◌, ℕ, Bool, true, false, cond, ◌&&◌, List, length, get_or, set, Some, None, Ok, Err, Option, Result, sym, refl, ap, ◌∙◌, subst, ap₂, arith}
-use Rattle.std.proofs.lemmas.Option.{slice_get_read}
+use Rattle.std.proofs.Common.{◌≡◌, ℕ, Bool, true, false, cond, ◌&&◌, List, [], ◌∷◌, get_or, set, Some, None, Ok, Err, Result, sym, refl, ap, ◌∙◌, subst, ap₂, arith}
+use Rattle.std.proofs.lemmas.List.{set-get_or}
+use Rattle.std.proofs.lemmas.Option.{get_or_from_slice_get}
 use Rattle.std.specs.List.{slice_get}
 use Rattle.frame.specs.declared.address.MmdAddress.{MmdAddress}
 use Rattle.frame.specs.Addresses.{addressable}
@@ -11,10 +12,9 @@ use Rattle.mmd.specs.Events.{after_read}
 use Rattle.mmd.specs.Meaning.{Meaning, read_word}
 use Rattle.call.specs.declared.answer.CallRefusal.{CallRefusal}
 use Rattle.call.specs.declared.answer.CallRefusal.TheVariants.{OutOfRange}
-use Rattle.promise.specs.Rules.{State, data_of, first_word, looked, looked_nth, more_frames, place_of, place_verdict, read_by, second_word, state_under, told_nth, took, took_at, took_nth}
-use Rattle.promise.proofs.Lists.{nth_within}
+use Rattle.promise.specs.Rules.{State, data_of, more_frames, place_of, place_verdict, read_by, state_under, took, took_at, took_nth}
 use Rattle.watch_list.specs.Entries.{fed_by}
-use Rattle.watch_list.specs.Watches.{after_look, entry_of, taken_in, told}
+use Rattle.watch_list.specs.Watches.{entry_of, taken_in, told}
 use Rattle.watch_list.specs.declared.entry.Entry.{Entry}
 use Rattle.watch_list.specs.declared.entry.Entry.TheVariants.{Count}
 use Rattle.watch_list.specs.declared.entry.CountEntry.{CountEntry}
@@ -85,6 +85,57 @@ module _ (entry : Entry) (e : CountEntry) (is : entry ≡ Count e) (named : is_n
         twice ∙ sym (ap (λ p. state_under (place_verdict (λ _. None) p) (registers_read (Count e) m) m) there.1),
       )
 
+-- ---- an entry is taken by itself
+
+abbrev pub with_watched : List Watched → State → State
+with_watched ws m = record { slots = m.slots; frames = m.frames; watched = ws }
+
+abbrev pub with_one : Watched → State → State
+with_one w m = with_watched (w ∷ []) m
+
+module _ (m m₁ : State) (w : Watched) (entry : Entry) (is : entry ≡ entry_of w)
+    (after : m₁ ≡ state_under (entry_verdict entry m.slots) (registers_read entry m) m) where
+  abbrev ReadWords : Result (ℕ × ℕ) CallRefusal → Type 0
+  ReadWords r = r ≡ result_under (entry_verdict entry m.slots) (words_at entry (place_of entry m.slots))
+
+  abbrev LeftAt : Place → Type 0
+  LeftAt p = m₁ ≡ state_under (place_verdict (λ _. None) p) (registers_read (entry_of w) m) m
+
+  abbrev answer_at : Place → Result ℕ CallRefusal
+  answer_at p = result_under (place_verdict (λ _. None) p) (data_of (fed_by (entry_of w)) p)
+
+  left_is : LeftAt (place_of (entry_of w) m.slots)
+  left_is = after ∙ ap (λ x. state_under (entry_verdict x m.slots) (registers_read x m) m) is
+
+  words_are : (r : Result (ℕ × ℕ) CallRefusal) → ReadWords r
+      → r ≡ result_under (entry_verdict (entry_of w) m.slots) (words_at (entry_of w) (place_of (entry_of w) m.slots))
+  words_are r told = told ∙ ap (λ x. result_under (entry_verdict x m.slots) (words_at x (place_of x m.slots))) is
+
+  refused_by_place : (e : CallRefusal) (p : Place) → LeftAt p → Err e ≡ result_under (place_verdict (λ _. None) p) (words_at (entry_of w) p)
+      → (Err e ≡ answer_at p) × (with_one w m₁ ≡ took_at 0 w p (with_one w m))
+  refused_by_place e no_port left told = (cc, ap (with_one w) left)
+  refused_by_place e no_device left told = (cc, ap (with_one w) left)
+  refused_by_place e (found mmd) left told = let z : ◌≡◌ {A = ℕ} 0 1 = cc in absurd (omega arith)
+
+  pub take_refused : (e : CallRefusal) → ReadWords (Err e) → (Err e ≡ take_answer w m.slots) × (with_one w m₁ ≡ took 0 (with_one w m))
+  unfolding took
+  take_refused e told = refused_by_place e (place_of (entry_of w) m.slots) left_is (words_are (Err e) told)
+
+  granted_by_place : (word low : ℕ) (taken : Watched) → taken ≡ taken_in word low w
+      → (p : Place) → LeftAt p → Ok (word, low) ≡ result_under (place_verdict (λ _. None) p) (words_at (entry_of w) p)
+      → (Ok word ≡ answer_at p) × (with_one taken m₁ ≡ took_at 0 w p (with_one w m))
+  granted_by_place word low taken takes no_port left told = let z : ◌≡◌ {A = ℕ} 0 1 = cc in absurd (omega arith)
+  granted_by_place word low taken takes no_device left told = let z : ◌≡◌ {A = ℕ} 0 1 = cc in absurd (omega arith)
+  granted_by_place word low taken takes (found mmd) left told =
+      let words : ◌≡◌ {A = ℕ × ℕ} (word, low) (words_at (entry_of w) (found mmd)) = cc in
+      (ap (λ (ns : ℕ × ℕ). Ok ns.0) words, ap₂ with_one (takes ∙ ap (λ (ns : ℕ × ℕ). taken_in ns.0 ns.1 w) words) left)
+
+  pub take_granted : (word low : ℕ) (taken : Watched) → taken ≡ taken_in word low w → ReadWords (Ok (word, low))
+      → (Ok word ≡ take_answer w m.slots) × (with_one taken m₁ ≡ took 0 (with_one w m))
+  unfolding took
+  take_granted word low taken takes told =
+      granted_by_place word low taken takes (place_of (entry_of w) m.slots) left_is (words_are (Ok (word, low)) told)
+
 -- ---- an entry of the list is taken
 
 pub took_is : (m : State) (i : ℕ) (w : Watched) → slice_get m.watched i ≡ Some w → took i m ≡ took_at i w (place_of (entry_of w) m.slots) m
@@ -100,74 +151,20 @@ took_under m i w at = by (place_of (entry_of w) m.slots) (took_is m i w at)
     by no_device is = is
     by (found mmd) is = refl
 
-module _ (m m₁ : State) (i : ℕ) (w : Watched) (at : slice_get m.watched i ≡ Some w) (entry : Entry) (is : entry ≡ entry_of w)
-    (after : m₁ ≡ state_under (entry_verdict entry m.slots) (registers_read entry m) m) where
-  abbrev ReadWords : Result (ℕ × ℕ) CallRefusal → Type 0
-  ReadWords r = r ≡ result_under (entry_verdict entry m.slots) (words_at entry (place_of entry m.slots))
+-- an entry is put where it stands already
+set_there : {X : Type 0} (xs : List X) (i : ℕ) (x : X) → slice_get xs i ≡ Some x → set xs i x ≡ xs
+set_there xs i x at = ap (set xs i) (sym (get_or_from_slice_get xs i x x at)) ∙ set-get_or xs i x
 
-  abbrev LeftAt : Place → Type 0
-  LeftAt p = m₁ ≡ state_under (place_verdict (λ _. None) p) (registers_read (entry_of w) m) m
+-- an entry that was taken by itself, put back into its list
+pub took_in_list : (m after : State) (i : ℕ) (w taken : Watched) → slice_get m.watched i ≡ Some w
+    → with_one taken after ≡ took 0 (with_one w m) → with_watched (set m.watched i taken) after ≡ took i m
+unfolding took
+took_in_list m after i w taken at took_it = ap put_back took_it ∙ by (place_of (entry_of w) m.slots) ∙ sym (took_is m i w at)
+  where
+    put_back : State → State
+    put_back s = with_watched (set m.watched i (get_or s.watched 0 w)) s
 
-  abbrev answer_at : Place → Result ℕ CallRefusal
-  answer_at p = result_under (place_verdict (λ _. None) p) (data_of (fed_by (entry_of w)) p)
-
-  answer_is : take_answer (slice_get m.watched i) m.slots ≡ answer_at (place_of (entry_of w) m.slots)
-  answer_is = ap (λ o. take_answer o m.slots) at
-
-  left_is : LeftAt (place_of (entry_of w) m.slots)
-  left_is = after ∙ ap (λ x. state_under (entry_verdict x m.slots) (registers_read x m) m) is
-
-  words_are : (r : Result (ℕ × ℕ) CallRefusal) → ReadWords r
-      → r ≡ result_under (entry_verdict (entry_of w) m.slots) (words_at (entry_of w) (place_of (entry_of w) m.slots))
-  words_are r told = told ∙ ap (λ x. result_under (entry_verdict x m.slots) (words_at x (place_of x m.slots))) is
-
-  same_watched : (v : Option CallRefusal) → m₁ ≡ state_under v (registers_read entry m) m → m₁.watched ≡ m.watched
-  same_watched None left = ap (λ (s : State). s.watched) left
-  same_watched (Some e) left = ap (λ (s : State). s.watched) left
-
-  -- after its registers were read the entry still stands there
-  pub still_there : (w₁ : Watched) → w₁ ≡ get_or m₁.watched i w₁ → slice_get m₁.watched i ≡ Some w₁
-  still_there w₁ read =
-      let there : slice_get m₁.watched i ≡ Some w = ap (λ (ws : List Watched). slice_get ws i) (same_watched (entry_verdict entry m.slots) after) ∙ at in
-      slice_get_read m₁.watched (length m₁.watched) i w₁ refl (nth_within m₁.watched i w there) read
-
-  refused_by_place : (e : CallRefusal) (p : Place) → LeftAt p → Err e ≡ result_under (place_verdict (λ _. None) p) (words_at (entry_of w) p)
-      → (Err e ≡ answer_at p) × (m₁ ≡ took_at i w p m)
-  refused_by_place e no_port left told = (cc, left)
-  refused_by_place e no_device left told = (cc, left)
-  refused_by_place e (found mmd) left told = let z : ◌≡◌ {A = ℕ} 0 1 = cc in absurd (omega arith)
-
-  pub take_refused : (e : CallRefusal) → ReadWords (Err e) → (Err e ≡ take_answer (slice_get m.watched i) m.slots) × (m₁ ≡ took i m)
-  take_refused e told =
-      let all = refused_by_place e (place_of (entry_of w) m.slots) left_is (words_are (Err e) told) in
-      (all.0 ∙ sym answer_is, all.1 ∙ sym (took_is m i w at))
-
-  granted_by_place : (word low : ℕ) (w₁ taken : Watched) → slice_get m₁.watched i ≡ Some w₁ → taken ≡ taken_in word low w₁
-      → (p : Place) → LeftAt p → Ok (word, low) ≡ result_under (place_verdict (λ _. None) p) (words_at (entry_of w) p)
-      → (Ok word ≡ answer_at p) × (record { slots = m₁.slots; frames = m₁.frames; watched = set m₁.watched i taken } ≡ took_at i w p m)
-  granted_by_place word low w₁ taken there takes no_port left told = let z : ◌≡◌ {A = ℕ} 0 1 = cc in absurd (omega arith)
-  granted_by_place word low w₁ taken there takes no_device left told = let z : ◌≡◌ {A = ℕ} 0 1 = cc in absurd (omega arith)
-  granted_by_place word low w₁ taken there takes (found mmd) left told =
-      let words : ◌≡◌ {A = ℕ × ℕ} (word, low) (words_at (entry_of w) (found mmd)) = cc in
-      let same : Some w₁ ≡ Some w = sym there ∙ ap (λ (s : State). slice_get s.watched i) left ∙ at in
-      let own : w₁ ≡ w = cc in
-      let fed : taken ≡ taken_in (first_word mmd (entry_of w)) (second_word mmd (entry_of w)) w =
-      takes ∙ ap₂ (λ (ns : ℕ × ℕ) x. taken_in ns.0 ns.1 x) words own in
-      (ap (λ (ns : ℕ × ℕ). Ok ns.0) words, ap₂ (λ (s : State) x. record { slots = s.slots; frames = s.frames; watched = set s.watched i x }) left fed)
-
-  pub take_granted : (word low : ℕ) (w₁ taken : Watched) → w₁ ≡ get_or m₁.watched i w₁ → taken ≡ taken_in word low w₁ → ReadWords (Ok (word, low))
-      → (Ok word ≡ take_answer (slice_get m.watched i) m.slots)
-      × (record { slots = m₁.slots; frames = m₁.frames; watched = set m₁.watched i taken } ≡ took i m)
-  take_granted word low w₁ taken read takes told =
-      let all = granted_by_place word low w₁ taken (still_there w₁ read) takes (place_of (entry_of w) m.slots) left_is (words_are (Ok (word, low)) told) in
-      (all.0 ∙ sym answer_is, all.1 ∙ sym (took_is m i w at))
-
--- ---- a watcher looks at an entry
-
-pub looked_at : (m : State) (watcher i : ℕ) (w after : Watched) → slice_get m.watched i ≡ Some w → after ≡ after_look watcher w
-    → (told watcher w ≡ told_nth watcher (slice_get m.watched i)) × (record { slots = m.slots; frames = m.frames; watched = set m.watched i after } ≡ looked watcher i m)
-unfolding looked
-looked_at m watcher i w after at is = (
-  sym (ap (told_nth watcher) at),
-  ap (λ (x : Watched). record { slots = m.slots; frames = m.frames; watched = set m.watched i x }) is ∙ sym (ap (λ o. looked_nth watcher i o m) at),
-)
+    by : (p : Place) → put_back (took_at 0 w p (with_one w m)) ≡ took_at i w p m
+    by no_port = ap (λ ws. with_watched ws m) (set_there m.watched i w at)
+    by no_device = ap (λ ws. with_watched ws m) (set_there m.watched i w at)
+    by (found mmd) = refl

@@ -1,9 +1,8 @@
 -- What the station gets when it reads an entry's registers: the words of both, or why there is nothing to read.
-use Rattle.std.specs.Prelude.{ℕ, List, Some, None, Option, Result}
+use Rattle.std.specs.Prelude.{ℕ, List, None, Option, Result}
 use Rattle.bank.specs.Slots.{SlotMeaning}
 use Rattle.bus.specs.Places.{Place, no_port, no_device, found}
 use Rattle.call.specs.declared.answer.CallRefusal.{CallRefusal}
-use Rattle.call.specs.declared.answer.CallRefusal.TheVariants.{OutOfRange}
 use Rattle.promise.specs.Rules.{State, data_of, entry_frames, entry_read, first_word, more_frames, place_of, place_verdict, second_word}
 use Rattle.watch_list.specs.Entries.{fed_by}
 use Rattle.watch_list.specs.Watches.{entry_of}
@@ -25,7 +24,6 @@ abbrev pub registers_read : Entry → State → State
 registers_read e m =
     record { slots = entry_read e m.slots; frames = more_frames (entry_frames e) m.frames; watched = m.watched }
 
--- what is answered where the entry with a number is taken: the word of its first register
-abbrev pub take_answer : Option Watched → List SlotMeaning → Result ℕ CallRefusal
-take_answer None slots = result_under (Some OutOfRange) 0
-take_answer (Some w) slots = result_under (entry_verdict (entry_of w) slots) (data_of (fed_by (entry_of w)) (place_of (entry_of w) slots))
+-- what is answered where an entry is taken: the word of its first register
+abbrev pub take_answer : Watched → List SlotMeaning → Result ℕ CallRefusal
+take_answer w slots = result_under (entry_verdict (entry_of w) slots) (data_of (fed_by (entry_of w)) (place_of (entry_of w) slots))

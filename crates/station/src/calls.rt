@@ -1,5 +1,5 @@
 // The seven calls of a station. Each is refused by 5, then 3, 4, then 6 or 7, and a refused one leaves all as it was.
-ghost use Rattle.std.specs.Prelude.{◌≡◌, ◌&&◌, nat_le, nat_lt};
+ghost use Rattle.std.specs.Prelude.{◌≡◌};
 ghost use Rattle.call.specs.declared.call.Call.TheVariants.{At, WatchRead};
 ghost use Rattle.call.specs.declared.call.Request.TheVariants.{Count, Finish, Line, Read, Reset, Write};
 ghost use Rattle.promise.specs.Rules.{after_call, answer_of};
@@ -8,6 +8,7 @@ ghost use Rattle.station.specs.Stations.{state_of};
 
 use crate::hearing::hearing;
 use crate::station::Station;
+use crate::take::{read_register, take};
 use bank::bank::Bank;
 use call::answer::CallRefusal;
 use frame::address::MmdAddress;
@@ -15,25 +16,20 @@ use mmd::event::Event;
 
 const LAST_WATCHER: u8 = 7;
 
-// There is such a watcher and such an entry.
-fn look_in_range(watcher: u8, index: usize, entries: usize) -> bool
-    ensures { result ≡ (nat_le watcher 7 && nat_lt index entries) }
-{
-    watcher <= LAST_WATCHER && index < entries
-}
-
 impl<B: Bank> Station<B> {
     // Reads an entry, and tells the watcher what it is owed of it, which is then nothing.
     pub fn watch_read(&mut self, watcher: u8, entry: u8) -> Result<u32, CallRefusal>
         ensures answer { told_as result ≡ answer_of (WatchRead watcher entry) (state_of B.Bank.slots self.old) }
         ensures after { state_of B.Bank.slots self.new ≡ after_call (WatchRead watcher entry) (state_of B.Bank.slots self.old) }
     {
-        let index = usize::from(entry);
-        if !look_in_range(watcher, index, self.watched.len()) {
+        if watcher > LAST_WATCHER {
             return Err(CallRefusal::OutOfRange);
         }
-        self.take(index)?;
-        Ok(self.look(index, watcher))
+        let Some(watched) = self.watched.get_mut(usize::from(entry)) else {
+            return Err(CallRefusal::OutOfRange);
+        };
+        take(&mut self.bus, watched)?;
+        Ok(watched.look(watcher))
     }
 
     // Reads a register; the entry that it feeds takes the reading in.
@@ -41,9 +37,10 @@ impl<B: Bank> Station<B> {
         ensures answer { data_as result ≡ answer_of (At address (Read register)) (state_of B.Bank.slots self.old) }
         ensures after { state_of B.Bank.slots self.new ≡ after_call (At address (Read register)) (state_of B.Bank.slots self.old) }
     {
+        // by its place: tried `find` over `iter_mut`, and once that borrow is over a proof knows nothing of the list
         match hearing(self.watched.as_slice(), address, register) {
-            Some(index) => self.take(index),
-            None => self.read_register(address, register),
+            Some(index) => take(&mut self.bus, &mut self.watched[index]),
+            None => read_register(&mut self.bus, address, register),
         }
     }
 

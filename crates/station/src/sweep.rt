@@ -4,6 +4,7 @@ ghost use Rattle.promise.specs.Rules.{swept};
 ghost use Rattle.station.specs.Stations.{state_of};
 
 use crate::station::Station;
+use crate::take::take;
 use bank::bank::Bank;
 use frame::address::MmdAddress;
 
@@ -12,9 +13,9 @@ impl<B: Bank> Station<B> {
     pub(crate) fn sweep(&mut self, address: MmdAddress)
         ensures { state_of B.Bank.slots self.new ≡ swept address (length (state_of B.Bank.slots self.old).watched) (state_of B.Bank.slots self.old) }
     {
-        for index in 0..self.watched.len() {
-            if self.watched[index].entry().is_of(address) {
-                let _ = self.take(index);
+        for watched in self.watched.iter_mut() {
+            if watched.entry().is_of(address) {
+                let _ = take(&mut self.bus, watched);
             }
         }
     }

@@ -1,50 +1,43 @@
-use Rattle.std.proofs.Common.{◌≡◌, cond, length, vec_items, vec_len, sym, ap, ◌∙◌, arith}
-use Rattle.std.proofs.lemmas.Option.{slice_get_read}
-use Rattle.promise.specs.Rules.{swept, took}
+use Rattle.std.proofs.Common.{[], sym, ap, ◌∙◌, arith}
+use Rattle.std.proofs.lemmas.List.{with_items_is}
+use Rattle.std.proofs.lemmas.Option.{slice_get-get_or}
+use Rattle.promise.specs.Rules.{swept}
 use Rattle.watch_list.specs.Entries.{is_of}
-use Rattle.station.specs.Stations.{state_of}
-use Rattle.station.proofs.Swept.{swept_more, swept_none, swept_within}
+use Rattle.station.specs.Named.{all_named}
+use Rattle.station.specs.Stations.{state_of, state_over}
+use Rattle.station.proofs.Named.{named_nth}
+use Rattle.station.proofs.Swept.{swept_none, swept_other, swept_taken}
 use Rattle.station.proofs.station.Station.sweep.Goals as goal
 use Rattle.station.proofs.station.Station.sweep.Goals.{then-is_of, else-is_of}
 
-pub loop-index-init : goal.loop-index-init
-loop-index-init g c =
+pub loop-watched-init : goal.loop-watched-init
+loop-watched-init g c =
     let s = c.args.self.now in
-    (swept_none c.args.address (state_of g.B.Bank.slots s), c.len-index-end.ensures ∙ s.watched.ok.0)
-
-pub index-requires : goal.index-requires
-index-requires g c =
-    let s = c.loop-index.self in
-    swept_within c.args.address c.loop-index.index c.len-index-end.result (vec_len s.watched)
-    (state_of g.B.Bank.slots c.args.self.now) (state_of g.B.Bank.slots s) c.loop-index.invariant.0 c.loop-index.invariant.1 c.loop-index-test.true s.watched.ok.0
+    let lent = c.deref_mut-watched-items.ensures.value in
+    (ap (state_over g.B.Bank.slots s.bus) lent ∙ swept_none c.args.address (state_of g.B.Bank.slots s), ap all_named lent ∙ s.named)
 
 pub take-requires : goal.take-requires
 take-requires g c =
-    let s = c.loop-index.self in
-    swept_within c.args.address c.loop-index.index c.len-index-end.result (vec_len s.watched)
-    (state_of g.B.Bank.slots c.args.self.now) (state_of g.B.Bank.slots s) c.loop-index.invariant.0 c.loop-index.invariant.1 c.loop-index-test.true s.watched.ok.0
+    let ws = c.loop-watched.watched-items in
+    named_nth ws c.loop-watched.watched-index _ c.loop-watched.invariant.1 (slice_get-get_or ws c.loop-watched.watched-index _ (omega arith))
 
-pub loop-index-preserved : goal.loop-index-preserved
-loop-index-preserved g c =
-    let state = state_of g.B.Bank.slots in
-    let s = c.loop-index.self in
-    let m = state c.args.self.now in
-    let i = c.loop-index.index in
-    let within =
-    swept_within c.args.address i c.len-index-end.result (vec_len s.watched) m (state s)
-    c.loop-index.invariant.0 c.loop-index.invariant.1 c.loop-index-test.true s.watched.ok.0 in
-    let w = c.index.result.now in
-    let at = slice_get_read (vec_items s.watched) (vec_len s.watched) i w s.watched.ok.0 within c.index.ensures in
-    let of-it = c.is_of.ensures ∙ ap (is_of c.args.address) c.entry.ensures in
-    let left : state c.if-is_of.self ≡ cond c.is_of.result (took i (state s)) (state s) =
+pub loop-watched-preserved : goal.loop-watched-preserved
+loop-watched-preserved g c =
+    let slots = g.B.Bank.slots in
+    let m = state_of slots c.args.self.now in
+    let s = state_over slots c.loop-watched.self.1.0 c.loop-watched.watched-items in
+    let i = c.loop-watched.watched-index in
+    let so_far = c.loop-watched.invariant in
+    let of_it = sym (c.is_of.ensures ∙ ap (is_of c.args.address) c.entry.ensures) in
     elim c.if-is_of.branch [
-      | then-is_of v ↦ ap state v.self-is ∙ v.take.ensures.after ∙ sym (ap (λ t. cond t (took i (state s)) (state s)) v.if-is_of.true)
-      | else-is_of v ↦ ap state v.self-is ∙ sym (ap (λ t. cond t (took i (state s)) (state s)) v.if-is_of.false)
-    ] in
-    (swept_more c.args.address i m (state s) (state c.if-is_of.self) w c.is_of.result c.loop-index.invariant.0 at of-it left, c.loop-index.invariant.1)
+      | then-is_of v ↦ rw (v.self-is, v.watched-items-is)
+          (swept_taken c.args.address i m s _ (omega arith) so_far.0 so_far.1 (state_over slots v.take.new.bus []) v.take.new.watched (of_it ∙ v.if-is_of.true) v.take.ensures.after v.take.ensures.entry)
+      | else-is_of v ↦ rw (v.self-is, v.watched-items-is) (swept_other c.args.address i m s _ (omega arith) so_far.0 so_far.1 (of_it ∙ v.if-is_of.false))
+    ]
 
 pub returns : goal.returns
 returns g c =
-    let m = state_of g.B.Bank.slots c.args.self.now in
-    let all : c.loop-index.index ≡ length m.watched = omega (arith, c.loop-index.invariant.1, c.loop-index-test.false, c.loop-index.auto.index-end) in
-    c.loop-index.invariant.0 ∙ ap (λ k. swept c.args.address k m) all
+    let s = c.args.self.now in
+    let m = state_of g.B.Bank.slots s in
+    let left = with_items_is s.watched c.loop-watched.watched-items (omega (arith, s.watched.ok.0)) in
+    ap (state_over g.B.Bank.slots c.loop-watched.self.1.0) left ∙ c.loop-watched.invariant.0 ∙ ap (λ k. swept c.args.address k m) (omega (arith, s.watched.ok.0))
