@@ -1,4 +1,4 @@
-use Rattle.std.proofs.Common.{take, Some, None, sym, ◌∙◌, arith}
+use Rattle.std.proofs.Common.{take, Some, sym, ◌∙◌}
 use Rattle.std.proofs.lemmas.List.{at_drop_all}
 use Rattle.watch_list.specs.Checks.{check_behind}
 use Rattle.watch_list.proofs.Checked.{behind_at, few_enough, too_many}
@@ -13,10 +13,6 @@ returns-in-Some c =
     let entries = c.args.entries.now in
     let here = behind_at entries c.loop-place.place (Some c.in-Some.fault) c.loop-place-test.true c.in-Some.ensures in
     record { answer = sym (few_enough entries c.if-too_many.ensures ∙ c.loop-place.invariant.1 ∙ here); passes_exactly = passes_exactly c.args.entries.now }
-
-pub loop-place-preserved : goal.loop-place-preserved
-loop-place-preserved c =
-    (omega arith, c.loop-place.invariant.1 ∙ behind_at c.args.entries.now c.loop-place.place None c.loop-place-test.true c.in_default.ensures)
 
 pub returns : goal.returns
 returns c =
