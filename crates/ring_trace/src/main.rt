@@ -1,7 +1,7 @@
 // A trace of calls from standard input, replayed on the ring card: an answer line for each record.
 #![tactic(auto)]
 
-use anyhow::{Context, anyhow};
+use anyhow::anyhow;
 use card::card::{WATCH_LIST, card_bank};
 use station::station::Station;
 use std::io::{BufRead, BufReader, Write};
@@ -15,11 +15,13 @@ const LINES: usize = 262144;
 
 fn main(rt: HostRuntime) -> anyhow::Result<()> {
     let bank = card_bank(rt.alloc()).map_err(|_| anyhow!("no memory for the card's table"))?;
-    let station = Station::new(rt.alloc(), bank, &WATCH_LIST).map_err(|refused| refused.why);
-    let mut station = station.context("no memory for the watch list")?;
+    let mut station = Station::new(rt.alloc(), bank, &WATCH_LIST).map_err(|_| anyhow!(
+        "no memory for the watch list"
+    ))?;
     let mut input = BufReader::with_capacity(rt.alloc(), INPUT, rt.stdin())?;
     let mut out = rt.stdout();
-    let mut bytes = Vec::new(rt.alloc());
+    // room for a part and what the part before it left, so that no memory is asked for later
+    let mut bytes = Vec::with_capacity(rt.alloc(), 2 * INPUT)?;
     let mut lines = vec![in rt.alloc(); 0u8; LINES]?;
     // nothing says that an input ends, and a loop must
     for _ in 0..u64::MAX {
