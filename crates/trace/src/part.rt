@@ -1,5 +1,5 @@
 // A part of a trace, as it comes in: its records are worked as far as they are there whole.
-ghost use Rattle.std.specs.Prelude.{◌≡◌, ◌≤◌, ◌||◌, length, IfSome, nat_le};
+ghost use Rattle.std.specs.Prelude.{◌≡◌, ◌+◌, ◌≤◌, true, not, ◌&&◌, ◌||◌, length, IfSome, nat_le, nat_lt};
 ghost use Rattle.station.specs.Stations.{state_of};
 ghost use Rattle.trace.specs.Parts.{WorkedPart};
 
@@ -34,6 +34,8 @@ pub fn replay_part<'a, B: Bank>(
     lines: &mut [u8],
 ) -> Part<'a>
     ensures within { IfSome result.rest (λ rest. length rest.now ≤ length input.now) × (result.written ≤ length lines.new) }
+    // a record that is there whole is left only where some line would not fit
+    ensures as_far_as_it_goes { IfSome result.rest (λ rest. (nat_lt (length rest.now) 7 && not last || nat_lt (length lines.new) (result.written + 11)) ≡ true) }
     ensures worked { WorkedPart (state_of B.Bank.slots station.old) input.now last result (state_of B.Bank.slots station.new) lines.new }
 {
     let mut rest = input;
