@@ -13,6 +13,9 @@ const INPUT: usize = 65536;
 
 const LINES: usize = 262144;
 
+// The length of the longest record: a part leaves less than that for the next one.
+const RECORD_MAX: usize = 7;
+
 fn main(rt: HostRuntime) -> anyhow::Result<()> {
     let bank = card_bank(rt.alloc()).map_err(|_| anyhow!("no memory for the card's table"))?;
     let mut station = Station::new(rt.alloc(), bank, &WATCH_LIST).map_err(|_| anyhow!(
@@ -21,7 +24,7 @@ fn main(rt: HostRuntime) -> anyhow::Result<()> {
     let mut input = BufReader::with_capacity(rt.alloc(), INPUT, rt.stdin())?;
     let mut out = rt.stdout();
     // room for a part and what the part before it left, so that no memory is asked for later
-    let mut bytes = Vec::with_capacity(rt.alloc(), 2 * INPUT)?;
+    let mut bytes = Vec::with_capacity(rt.alloc(), INPUT + RECORD_MAX)?;
     let mut lines = vec![in rt.alloc(); 0u8; LINES]?;
     // nothing says that an input ends, and a loop must
     for _ in 0..u64::MAX {
@@ -29,13 +32,19 @@ fn main(rt: HostRuntime) -> anyhow::Result<()> {
         let count = part.len();
         bytes.extend_from_slice(part)?;
         input.consume(count);
-        let Part { written, rest } = replay_part(&mut station, &bytes, count == 0, &mut lines);
+        let Part {
+            taken,
+            written,
+            rest,
+        } = replay_part(&mut station, &bytes, count == 0, &mut lines);
         out.write_all(&lines[..written])?;
         let Some(rest) = rest else {
             return Ok(());
         };
-        let worked = bytes.len() - rest.len();
-        bytes.drain(..worked);
+        let left = rest.len();
+        // not by `drain`, which turns round all that was worked
+        bytes.copy_within(taken.., 0);
+        bytes.truncate(left);
     }
     Ok(())
 }

@@ -1,5 +1,5 @@
 -- Working a part of a trace, record by record.
-use Rattle.std.proofs.Common.{◌≡◌, ℕ, suc, ◌≤◌, Bool, true, false, ◌||◌, leb, List, [], ◌∷◌, ◌++◌, length, Some, None, Ok, Err, sym, refl, ap, ◌∙◌, subst, ap₂, inl, inr, append_assoc, arith}
+use Rattle.std.proofs.Common.{◌≡◌, ℕ, suc, ◌+◌, ◌≤◌, Bool, true, false, ◌||◌, leb, List, [], ◌∷◌, ◌++◌, length, Some, None, Ok, Err, sym, refl, ap, ◌∙◌, subst, ap₂, inl, inr, append_assoc, arith, length-append}
 use Rattle.std.proofs.lemmas.List.{append-nil}
 use Rattle.std.proofs.lemmas.Bool.Decides.{nat_tests}
 use Rattle.call.specs.declared.call.Call.{Call}
@@ -13,7 +13,7 @@ use Rattle.trace_format.specs.declared.refusal.TraceRefusal.TheVariants.{Unliste
 use Rattle.trace_format.proofs.Decoding.{cut, decoded_was_spelled, ends, unlisted}
 use Rattle.trace_format.proofs.Spelled.{spelled_is_decoded}
 use Rattle.trace.specs.Parts.{Follows, WorkedSoFar, WorkedToTheEnd, before}
-use Rattle.trace.specs.Traces.{lines_of, reading_of}
+use Rattle.trace.specs.Traces.{Reading, lines_of, reading_of, spelled}
 use Rattle.trace.proofs.Inputs.{bytes_back, reading_ends, reading_more, reading_stops}
 
 -- ---- a record that is there whole is decoded alike whatever follows
@@ -49,6 +49,17 @@ stopped_ahead false (map ∷ fields) future CutRecord whole any is =
     absurd (let s = short.1 in omega arith)
 
 -- ---- one call more
+
+-- taking a record off an input takes as much off the records that are read off it
+pub reads_more : (rest : List ℕ) (taken : Taken) → Bytes rest → decode_of rest ≡ Ok (Some taken)
+    → length (spelled (reading_of rest).calls) + length taken.rest ≡ length rest + length (spelled (reading_of taken.rest).calls)
+reads_more rest taken all is =
+    let front = record_of taken.call in
+    let after = spelled (reading_of taken.rest).calls in
+    let here : length rest ≡ length front + length taken.rest = ap length (decoded_was_spelled rest taken all is).0 ∙ length-append front taken.rest in
+    let read : length (spelled (reading_of rest).calls) ≡ length front + length after =
+    ap (λ (r : Reading). length (spelled r.calls)) (reading_more rest taken (sym is)) ∙ length-append front after in
+    omega arith
 
 after_calls_more : (m : State) (calls : List Call) (c : Call) → after_calls m (calls ++ (c ∷ [])) ≡ after_call c (after_calls m calls)
 after_calls_more m [] c = refl

@@ -8,17 +8,26 @@ use Rattle.trace_format.specs.declared.line.Line.TheVariants.{Stop}
 use Rattle.trace_format.proofs.Decoding.{takes_some}
 use Rattle.trace.specs.Parts.{WorkedSoFar, WorkedToTheEnd}
 use Rattle.trace.specs.Steps.{answer_line, answered, buffer_after_step, ended, result_of_step, state_after_step, stopped}
-use Rattle.trace.proofs.Parts.{Whole, bytes_more, ends_here, so_far_more, so_far_start, stops_here}
+use Rattle.trace.specs.Traces.{Reading, reading_of, spelled}
+use Rattle.trace.proofs.Inputs.{reading_ends, reading_stops}
+use Rattle.trace.proofs.Parts.{Whole, bytes_more, ends_here, reads_more, so_far_more, so_far_start, stops_here}
 use Rattle.trace.proofs.Stepped.{text_more, was}
+
+-- how long the records of the calls are that are read off an input
+abbrev pub read_length : List ℕ → ℕ
+read_length input = length (spelled (reading_of input).calls)
 
 -- the lines of the records so far stand at the start of the buffer
 pub record Working (m : State) (input : List ℕ) (last : Bool) (here : State) (rest lines : List ℕ) (at : ℕ) : Type 0 where
   pub so_far : WorkedSoFar m input last here rest (take at lines)
   pub bytes : Bytes rest
   pub inside : at ≤ length lines
+  pub within : length rest ≤ length input
+  -- the records that are read off the input are those that were taken and those that are read off the rest
+  pub taken : read_length input + length rest ≡ length input + read_length rest
 
 pub working_start : (m : State) (input : List ℕ) (last : Bool) (lines : List ℕ) → Bytes input → Working m input last m input lines 0
-working_start m input last lines all = record { so_far = so_far_start m input last; bytes = all; inside = omega arith }
+working_start m input last lines all = record { so_far = so_far_start m input last; bytes = all; inside = omega arith; within = omega arith; taken = omega arith }
 
 -- what is left of the buffer, and the buffer after something was written there
 abbrev pub unused : List ℕ → ℕ → List ℕ
@@ -51,6 +60,10 @@ module _ (m : State) (input : List ℕ) (last : Bool) (here after : State) (rest
       let so_far = so_far_more m input last here rest (take at lines) w.so_far w.bytes a.taken a.decodes in
       let less = (takes_some rest a.taken a.decodes).0 in
       let same : length more ≡ length a.taken.rest = ap length a.left in
+      let same_read : read_length more ≡ read_length a.taken.rest = ap read_length a.left in
+      let read = reads_more rest a.taken w.bytes a.decodes in
+      let within = w.within in
+      let taken = w.taken in
       record {
         working = record {
           so_far = subst (λ (t : List ℕ). WorkedSoFar m input last after more t) (sym text)
@@ -58,6 +71,8 @@ module _ (m : State) (input : List ℕ) (last : Bool) (here after : State) (rest
               (subst (λ st. WorkedSoFar m input last st a.taken.rest (take at lines ++ line)) (sym a.state_is) so_far));
           bytes = subst Bytes (sym a.left) (bytes_more m input last here rest (take at lines) w.so_far w.bytes a.taken a.decodes);
           inside = fitting n line a.long a.fits a.text;
+          within = omega arith;
+          taken = omega arith;
         };
         shorter = omega arith;
       }
@@ -69,8 +84,16 @@ module _ (m : State) (input : List ℕ) (last : Bool) (here after : State) (rest
       let kept : length (filled lines at written) ≡ length lines = same_len_mid at (length lines - at) lines written (ap length text) in
       omega arith
 
+  -- where no call is read off the rest, all records were taken
+  all_taken : read_length rest ≡ 0 → length input - length rest ≡ read_length input
+  all_taken none =
+      let within = w.within in
+      let taken = w.taken in
+      omega arith
+
   pub stops_there : (n : ℕ) → Ok (stopped n) ≡ result_of_step here rest (unused lines at) → Whole last rest
       → (at + n ≤ length (filled lines at written)) × WorkedToTheEnd m input last after (take (at + n) (filled lines at written))
+      × (length input - length rest ≡ read_length input)
   stops_there n came whole =
       let a = was here after rest (unused lines at) written state wrote (stopped n) came in
       let line = line_of (Stop a.refusal) in
@@ -79,14 +102,17 @@ module _ (m : State) (input : List ℕ) (last : Bool) (here after : State) (rest
         fitting n line a.long a.fits a.text,
         subst (λ (t : List ℕ). WorkedToTheEnd m input last after t) (sym text)
             (subst (λ st. WorkedToTheEnd m input last st (take at lines ++ line)) (sym a.state_is) over),
+        all_taken (ap (λ (r : Reading). length (spelled r.calls)) (reading_stops rest a.refusal (sym a.decodes))),
       )
 
   pub ends_there : Ok ended ≡ result_of_step here rest (unused lines at) → Whole last rest
       → (at ≤ length (filled lines at written)) × WorkedToTheEnd m input last after (take at (filled lines at written))
+      × (length input - length rest ≡ read_length input)
   ends_there came whole =
       let a = was here after rest (unused lines at) written state wrote ended came in
       let over = ends_here m input last here rest (take at lines) w.so_far w.bytes whole a.decodes in (
         unwritten a.text,
         subst (λ (t : List ℕ). WorkedToTheEnd m input last after t) (sym (take_put at (length lines - at) lines written w.inside))
             (subst (λ st. WorkedToTheEnd m input last st (take at lines)) (sym a.state_is) over),
+        all_taken (ap (λ (r : Reading). length (spelled r.calls)) (reading_ends rest (sym a.decodes))),
       )

@@ -26,8 +26,20 @@ returns-in-Stopped-clause-worked g c =
     let came = ap (λ p. Ok (outcome p)) (sym c.in-Stopped.is) ∙ c.in-Ok.ensures.result in
     (stops_there _ _ _ _ _ _ _ _ _ at.invariant c.step.ensures.state c.step.ensures.buffer c.in-Stopped.length came (sym c.is_whole.ensures ∙ c.loop-station-test.true)).1
 
+pub returns-in-Stopped-clause-taken : goal.returns-in-Stopped-clause-taken
+returns-in-Stopped-clause-taken g c =
+    let at = c.loop-station in
+    let came = ap (λ p. Ok (outcome p)) (sym c.in-Stopped.is) ∙ c.in-Ok.ensures.result in
+    (stops_there _ _ _ _ _ _ _ _ _ at.invariant c.step.ensures.state c.step.ensures.buffer c.in-Stopped.length came (sym c.is_whole.ensures ∙ c.loop-station-test.true)).2
+
 pub returns-in-End-clause-worked : goal.returns-in-End-clause-worked
 returns-in-End-clause-worked g c =
     let at = c.loop-station in
     let came = ap (λ p. Ok (outcome p)) (sym c.in-End.is) ∙ c.in-Ok.ensures.result in
     (ends_there _ _ _ _ _ _ _ _ _ at.invariant c.step.ensures.state c.step.ensures.buffer came (sym c.is_whole.ensures ∙ c.loop-station-test.true)).1
+
+pub returns-in-End-clause-taken : goal.returns-in-End-clause-taken
+returns-in-End-clause-taken g c =
+    let at = c.loop-station in
+    let came = ap (λ p. Ok (outcome p)) (sym c.in-End.is) ∙ c.in-Ok.ensures.result in
+    (ends_there _ _ _ _ _ _ _ _ _ at.invariant c.step.ensures.state c.step.ensures.buffer came (sym c.is_whole.ensures ∙ c.loop-station-test.true)).2
