@@ -18,8 +18,11 @@ pub fn read_all(entries: &mut [Entry], register: u16, live: &Live) -> u16
 {
     let mut word = 0;
     for entry in entries.iter_mut() {
-        word |= entry.shown(register, live);
-        *entry = entry.read(register, live);
+        // Tested here too, so that a row of another register is not written back.
+        if entry.row.listed.register == register {
+            word |= entry.shown(register, live);
+            *entry = entry.read(register, live);
+        }
     }
     word
 }

@@ -34,12 +34,17 @@ pub fn read(slot: CounterSlot, register: u16) -> CounterSlot
     ensures { result ≡ slot_read register slot }
 {
     let Places { short, high, low } = slot.places;
-    let counter = match (short, high, low) {
-        (Some(place), _, _) if place.register == register => slot.counter.clear(),
-        (None, Some(high), Some(_)) if high == register => slot.counter.hold(),
-        _ => slot.counter,
-    };
-    CounterSlot { counter, ..slot }
+    match (short, high, low) {
+        (Some(place), _, _) if place.register == register => CounterSlot {
+            counter: slot.counter.clear(),
+            ..slot
+        },
+        (None, Some(high), Some(_)) if high == register => CounterSlot {
+            counter: slot.counter.hold(),
+            ..slot
+        },
+        _ => slot,
+    }
 }
 
 // After a reset of the MMD.

@@ -54,7 +54,7 @@ impl TableMmd {
     }
 }
 
-// An entry for each row; each has passed the check, so none is refused here.
+// An entry for each row; each has passed the check, so none is tested again.
 fn new_entries(heap: Global, rows: &[Row]) -> Result<Vec<Entry>, AllocError>
     requires { AllByRecursion WellFormed rows.now }
     ensures { IfOk result (λ v. StartsAs rows.now v.items) }
@@ -62,7 +62,11 @@ fn new_entries(heap: Global, rows: &[Row]) -> Result<Vec<Entry>, AllocError>
     // A loop, not map and collect: that each row fits is then read off the loop, and a closure would have to be shown it.
     let mut entries = Vec::with_capacity(heap, rows.len())?;
     for row in rows {
-        entries.push_reserved(Entry::new(FittingRow::try_from(*row).unwrap()));
+        let content = row.content().unwrap();
+        entries.push_reserved(Entry::new(FittingRow {
+            listed: *row,
+            content,
+        }));
     }
     Ok(entries)
 }
