@@ -1,5 +1,5 @@
 -- The check of rows, step by step: the places of their counters, the first fault and the halves.
-use Rattle.std.proofs.Common.{◌≡◌, ℕ, suc, ◌+◌, ◌-◌, ◌<◌, true, false, ltb, List, [], ◌∷◌, ◌++◌, length, get_or, take, drop, Some, None, Option, sym, refl, ap, ◌∙◌, arith}
+use Rattle.std.proofs.Common.{◌≡◌, ℕ, suc, ◌+◌, ◌-◌, ◌<◌, ◌≤◌, true, false, ltb, List, [], ◌∷◌, ◌++◌, length, get_or, take, drop, Some, None, Option, sym, refl, ap, ◌∙◌, arith}
 use Rattle.std.specs.Option.{option_or}
 use Rattle.std.specs.List.{position, position_from}
 use Rattle.std.proofs.lemmas.Iterator.Adapters.{position_from-zero}
@@ -24,6 +24,10 @@ follows_last (a ∷ []) row d some = refl
 follows_last (a ∷ b ∷ rest) row d some =
     let one_more : suc (length (b ∷ rest) - 1) ≡ length (a ∷ b ∷ rest) - 1 = omega arith in
     follows_last (b ∷ rest) row d (omega arith) ∙ ap (λ n. in_order (get_or (a ∷ b ∷ rest) n d) row) one_more
+
+pub follows_none : (rows : List Row) (row : Row) → length rows ≤ 0 → follows rows row ≡ true
+follows_none [] row none = refl
+follows_none (a ∷ rest) row none = absurd (omega arith)
 
 -- ---- the places of counters
 

@@ -1,13 +1,13 @@
 -- The sweep of an MMD's entries, entry by entry.
-use Rattle.std.proofs.Common.{◌≡◌, ℕ, zero, suc, ◌+◌, ◌<◌, Bool, true, false, cond, length, get_or, set, Some, None, Option, sym, refl, ap, ◌∙◌, add-one}
-use Rattle.std.proofs.lemmas.List.{set-get_or}
+use Rattle.std.proofs.Common.{◌≡◌, ℕ, zero, suc, ◌+◌, ◌<◌, Bool, true, false, cond, length, get_or, set, Some, None, Option, sym, refl, ap, ◌∙◌, add-one, arith}
+use Rattle.std.proofs.lemmas.List.{length-set, set-get_or}
 use Rattle.std.proofs.lemmas.Option.{slice_get-get_or}
 use Rattle.std.specs.List.{slice_get}
 use Rattle.frame.proofs.Addresses.{one_address}
 use Rattle.frame.specs.declared.address.MmdAddress.{MmdAddress}
 use Rattle.bus.specs.Places.{Place, no_port, no_device, found, on_found, place}
 use Rattle.mmd.specs.Meaning.{Meaning}
-use Rattle.promise.specs.Rules.{State, entry_read, is_of_mmd, place_of, sweep_step, swept, took, took_at}
+use Rattle.promise.specs.Rules.{State, entry_read, is_of_mmd, place_of, sweep_step, swept, took, took_at, took_nth}
 use Rattle.promise.proofs.EntryReads.{after_entry, place_entry_read}
 use Rattle.watch_list.specs.Entries.{address_of, is_of}
 use Rattle.watch_list.specs.Watches.{entry_of}
@@ -16,6 +16,35 @@ use Rattle.station.specs.Named.{all_named}
 use Rattle.station.proofs.Accesses.{Absent}
 use Rattle.station.proofs.Named.{named_put}
 use Rattle.station.proofs.Takes.{took_in_list, took_is, with_one, with_watched}
+
+-- ---- the list keeps its length
+
+pub took_length : (k : ℕ) (m : State) → length (took k m).watched ≡ length m.watched
+unfolding took
+took_length k m = by_entry (slice_get m.watched k)
+  where
+    by_place : (w : Watched) (p : Place) → length (took_at k w p m).watched ≡ length m.watched
+    by_place w no_port = refl
+    by_place w no_device = refl
+    by_place w (found mmd) = length-set m.watched k _
+
+    by_entry : (o : Option Watched) → length (took_nth k o m).watched ≡ length m.watched
+    by_entry None = refl
+    by_entry (Some w) = by_place w (place_of (entry_of w) m.slots)
+
+swept_length : (address : MmdAddress) (k : ℕ) (m : State) → length (swept address k m).watched ≡ length m.watched
+unfolding swept
+swept_length address zero m = refl
+swept_length address (suc k) m =
+    let before = swept address k m in
+    let by : (t : Bool) → length (cond t (took k before) before).watched ≡ length before.watched =
+    λ t. elim t as (λ t. length (cond t (took k before) before).watched ≡ length before.watched) [ true ↦ took_length k before | false ↦ refl ] in
+    by (is_of_mmd address (slice_get before.watched k)) ∙ swept_length address k m
+
+-- an entry that is not swept yet stands in the list
+pub swept_within : (address : MmdAddress) (k n len : ℕ) (m s : State) → s ≡ swept address k m → n ≡ length m.watched → k < n → len ≡ length s.watched → k < len
+swept_within address k n len m s so_far all below long =
+    let same = ap (λ (s : State). length s.watched) so_far ∙ swept_length address k m in omega arith
 
 -- ---- one entry more
 

@@ -2,9 +2,10 @@
 use Rattle.std.proofs.Common.{◌≡◌, ℕ, zero, suc, ◌+◌, ◌*◌, ◌/◌, ◌%◌, ◌^◌, ◌<◌, ◌≤◌, List, ◌∷◌, ◌++◌, length, drop, set, sym, refl, ap, ◌∙◌, ap₂, mod-eq_of_lt, mul_assoc, add-mul, add-one, pow-suc, arith}
 use native.Mathlib.Nat.{pow-succ', pow-zero}
 use lib.Arith.{mod-mul}
+use lib.Bits.{bit_and}
 use Rattle.std.proofs.Math.Nat.{div-div-eq-div-mul}
 use Rattle.std.proofs.lemmas.List.{drop-set}
-use Rattle.std.proofs.lemmas.Nat.{mod_below, mul-lt}
+use Rattle.std.proofs.lemmas.Nat.{and_mask, mod_below, mul-lt, pow-add}
 use Rattle.std.proofs.lemmas.Str.{digit_value-digit_char}
 use Rattle.std.proofs.lemmas.Bool.Decides.{nat_tests}
 use Rattle.std.specs.Str.Parse.{digits_value, digits_value_after}
@@ -12,6 +13,16 @@ use Rattle.std.specs.Char.{digit_char}
 use Rattle.std.specs.List.{AllByRecursion}
 use Rattle.trace_format.specs.Lines.{digits, newline}
 use Rattle.trace_format.specs.Telling.{Digit}
+
+hex_place : (k : ℕ) → 2 ^ (4 * k) ≡ 16 ^ k
+hex_place zero = refl
+hex_place (suc k) =
+    let e : 4 * suc k ≡ 4 + 4 * k = omega arith in
+    ap (λ n. 2 ^ n) e ∙ pow-add 2 4 (4 * k) ∙ ap (λ n. 16 * n) (hex_place k) ∙ sym (pow-succ' 16 k)
+
+-- four bits of a word are its hex digit at that place
+pub four_bits : (word place : ℕ) → bit_and (word / 2 ^ (4 * place)) 15 ≡ word / 16 ^ place % 16
+four_bits word place = and_mask (word / 2 ^ (4 * place)) 4 ∙ ap (λ n. word / n % 16) (hex_place place)
 
 -- one digit more, in front of those that stand at the end of a line
 pub digit_more : (base place n at behind here : ℕ) (line : List ℕ) (d : ℕ) → at < length line → behind ≡ at + 1 → here ≡ at
