@@ -23,7 +23,7 @@ fn main(rt: HostRuntime) -> anyhow::Result<()> {
     let bank = card_bank(rt.alloc()).map_err(|_| anyhow!("no memory for the card's table"))?;
     let mut bus = Bus::new(bank);
     let mut listing = Listing::new();
-    // by parts: `bytes` took a third more time; and nothing says that an input ends, as a loop must
+    // part by part, since `bytes` took a third more time; bounded, since a loop must end and an input need not
     for _ in 0..u64::MAX {
         let part = input.fill_buf()?;
         let count = part.len();

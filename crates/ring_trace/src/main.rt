@@ -5,16 +5,13 @@ use anyhow::anyhow;
 use card::card::{WATCH_LIST, card_bank};
 use station::station::Station;
 use std::io::{BufRead, BufReader, Write};
-use trace::part::{Part, replay_part};
+use trace::part::{Part, RECORD_MAX, replay_part};
 
 // The bytes of a part of the input, and room for the lines of all its records: a record has three bytes or more, and a
 // line eleven or fewer.
 const INPUT: usize = 65536;
 
 const LINES: usize = 262144;
-
-// The length of the longest record: a part leaves less than that for the next one.
-const RECORD_MAX: usize = 7;
 
 fn main(rt: HostRuntime) -> anyhow::Result<()> {
     let bank = card_bank(rt.alloc()).map_err(|_| anyhow!("no memory for the card's table"))?;
@@ -23,7 +20,7 @@ fn main(rt: HostRuntime) -> anyhow::Result<()> {
     ))?;
     let mut input = BufReader::with_capacity(rt.alloc(), INPUT, rt.stdin())?;
     let mut out = rt.stdout();
-    // room for a part and what the part before it left, so that no memory is asked for later
+    // room for a part and what the part before it left, less than a record, so that no memory is asked for later
     let mut bytes = Vec::with_capacity(rt.alloc(), INPUT + RECORD_MAX)?;
     let mut lines = vec![in rt.alloc(); 0u8; LINES]?;
     // nothing says that an input ends, and a loop must

@@ -9,8 +9,8 @@ use bank::bank::Bank;
 use station::station::Station;
 use trace_format::line::LINE_MAX;
 
-// The length of the longest record.
-const RECORD_MAX: usize = 7;
+// The length of the longest record: a part leaves less than that for the next one, if its lines have room.
+pub const RECORD_MAX: usize = 7;
 
 #[derive(Clone, Copy, PartialEq, Eq, Debug)]
 pub struct Part<'a> {
